@@ -1,0 +1,10 @@
+pub mod Tests
+pub mod Keys
+pub mod Order
+pub mod Round
+pub mod Add
+pub mod Sub
+pub mod Multiples
+pub mod Sign
+pub mod Unit
+pub mod Fraction

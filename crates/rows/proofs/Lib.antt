@@ -1,0 +1,4 @@
+pub mod Scan
+pub mod Places
+pub mod Over
+pub mod Rows
