@@ -1,0 +1,14 @@
+pub mod Steps
+pub mod Pattern
+pub mod Floor
+pub mod ExpParts
+pub mod Size
+pub mod Squares
+pub mod Exponent
+pub mod LnParts
+pub mod Series
+pub mod RootsLaws
+pub mod ExpLaws
+pub mod LnLaws
+pub mod Ln1mLaws
+pub mod Examples

@@ -1,0 +1,269 @@
+// The kernels exp, ln and ln(1 - exp(p)): each is an exact definition of specs/, bit for bit. The calls `exp`, `ln` and `ln_1m_exp` refuse
+// what is outside their domain; `exp_of`, `ln_of` and `ln_1m_of`, for the crates above, give the bare value, defined for every argument.
+use answer::Answer;
+use answer::Refusal;
+use answer::done;
+use answer::refused;
+use order::minus_infinity;
+ghost use mathlib.Core.Path.{_≡_};
+ghost use mathlib.Core.List.{[], _∷_};
+ghost use Prim.Native.Nat.{_^_, _%_, _≤_, _<_};
+ghost use lib.IntN.{pos, _-ℤ_};
+ghost use lib.Dec.{T};
+ghost use lib.Ieee.{binary64, ofBits, size, inFloat};
+ghost use Rattle.order.specs.Float.{one};
+ghost use Rattle.kernels.specs.Binary.{unitsOf, dyadic};
+ghost use Rattle.kernels.specs.Pattern.{fieldOf, digitsOf, placeOf};
+ghost use Rattle.kernels.specs.Exp as Exp;
+ghost use Rattle.kernels.specs.Exp.{step, steps, expOf};
+ghost use Rattle.kernels.specs.Ln.{logBits, joined, lnFixed, lnOf};
+ghost use Rattle.kernels.specs.Ln1m as Ln1m;
+ghost use Rattle.kernels.specs.Ln1m.{ln1mOf};
+ghost use Rattle.kernels.specs.Calls as Calls;
+ghost use Rattle.kernels.specs.Calls.{expAnswer, lnAnswer, ln1mAnswer};
+
+// The whole square root of 2^61, then each the whole square root of the one before times 2^31.
+const ROOTS: [u64; 30] = [
+    1518500249,
+    1805811300,
+    1969251187,
+    2056437386,
+    2101467501,
+    2124350982,
+    2135885998,
+    2141676972,
+    2144578344,
+    2146030504,
+    2146756953,
+    2147120269,
+    2147301950,
+    2147392797,
+    2147438222,
+    2147460934,
+    2147472290,
+    2147477968,
+    2147480807,
+    2147482227,
+    2147482937,
+    2147483292,
+    2147483469,
+    2147483558,
+    2147483602,
+    2147483624,
+    2147483635,
+    2147483641,
+    2147483644,
+    2147483645,
+];
+
+// A kernel's answer: its value, where the argument is inside its domain.
+fn answered(inside: bool, value: f64) -> Answer
+    ensures { λ r. ⌜ r ≡ Calls.answered inside value ⌝ }
+{
+    if inside {
+        done(value)
+    } else {
+        refused(Refusal::NotGood, 0, 0)
+    }
+}
+
+// The digits of an f64's bits, sign clear: the fraction's field with the leading one, which a subnormal lacks.
+fn digits(bits: u64) -> u64
+    ensures { λ r. ⌜ r ≡ digitsOf bits ⌝ }
+{
+    if bits >> 52 == 0 {
+        bits & 0xf_ffff_ffff_ffff
+    } else {
+        (bits & 0xf_ffff_ffff_ffff) | 0x10_0000_0000_0000
+    }
+}
+
+// The place of those digits, in binary digits from 2^-1074 up.
+fn place(bits: u64) -> u64
+    ensures { λ r. ⌜ r ≡ placeOf bits ⌝ }
+{
+    let field = bits >> 52;
+    if field == 0 { 0 } else { field - 1 }
+}
+
+// One step of exp, for the lowest bit of g: a·c / 2^31 where it is set, else a, with no branch.
+fn stepped(a: u64, c: u64, g: u64) -> u64
+    requires { ⌜ (a ≤ 2 ^ 31) × (c < 2 ^ 31) ⌝ }
+    ensures { λ r. ⌜ (r ≡ step c (g % 2) a) × (r ≤ 2 ^ 31) ⌝ }
+{
+    let bit = g & 1;
+    (a * (c * bit + 0x8000_0000 * (1 - bit))) >> 31
+}
+
+// Five steps of exp, for the five lowest bits of g, highest first.
+fn five_steps(a: u64, g: u64, c1: u64, c2: u64, c3: u64, c4: u64, c5: u64) -> u64
+    requires { ⌜ (a ≤ 2 ^ 31) × (c1 < 2 ^ 31) × (c2 < 2 ^ 31) × (c3 < 2 ^ 31) × (c4 < 2 ^ 31) × (c5 < 2 ^ 31) ⌝ }
+    ensures { λ r. ⌜ (r ≡ steps (c1 ∷ c2 ∷ c3 ∷ c4 ∷ c5 ∷ []) g a) × (r ≤ 2 ^ 31) ⌝ }
+{
+    let a1 = stepped(a, c1, g >> 4);
+    let a2 = stepped(a1, c2, g >> 3);
+    let a3 = stepped(a2, c3, g >> 2);
+    let a4 = stepped(a3, c4, g >> 1);
+    stepped(a4, c5, g)
+}
+
+// 2^31 times 2^-(g / 2^30), for the thirty lowest bits of g.
+fn power(g: u64) -> u64
+    ensures { λ r. ⌜ (r ≡ Exp.power g) × (r ≤ 2 ^ 31) ⌝ }
+{
+    let c = ROOTS;
+    let a5 = five_steps(0x8000_0000, g >> 25, c[0], c[1], c[2], c[3], c[4]);
+    let a10 = five_steps(a5, g >> 20, c[5], c[6], c[7], c[8], c[9]);
+    let a15 = five_steps(a10, g >> 15, c[10], c[11], c[12], c[13], c[14]);
+    let a20 = five_steps(a15, g >> 10, c[15], c[16], c[17], c[18], c[19]);
+    let a25 = five_steps(a20, g >> 5, c[20], c[21], c[22], c[23], c[24]);
+    five_steps(a25, g, c[25], c[26], c[27], c[28], c[29])
+}
+
+// a·2^-k, exactly.
+fn scaled(a: u64, k: u64) -> f64
+    requires { ⌜ (a ≤ 2 ^ 53) × (k ≤ 1000) ⌝ }
+    ensures { λ r. ⌜ r ≡ dyadic (pos a) k ⌝ }
+{
+    (a as f64) * f64::from_bits((1023 - k) << 52)
+}
+
+// floor(y·2^30) of the y below 64 with these bits, sign clear: the digits, shifted to their place.
+fn floor30(bits: u64) -> u64
+    requires { ⌜ fieldOf bits ≤ 1028 ⌝ }
+    ensures { λ r. ⌜ (r ≡ Exp.floor30 (ofBits binary64 bits)) × (r < 2 ^ 36) ⌝ }
+{
+    let field = bits >> 52;
+    let q = digits(bits);
+    if field < 993 { 0 } else { q >> (1045 - field) }
+}
+
+// |d|, for d at most 0.
+fn magnitude(d: f64) -> f64
+    ensures { λ r. ⌜ r ≡ Exp.magnitude d ⌝ }
+{
+    if d < 0.0 { -d } else { 0.0 }
+}
+
+// exp(d) for d at most 0, from 0 to 1; 1 for any other d.
+pub fn exp_of(d: f64) -> f64
+    ensures { λ r. ⌜ r ≡ expOf d ⌝ }
+{
+    let y = magnitude(d) * 1.4426950408889634;
+    if y >= 62.0 {
+        return 0.0;
+    }
+    let fixed = floor30(f64::to_bits(y));
+    scaled(power(fixed & 0x3fff_ffff), 31 + (fixed >> 30))
+}
+
+// exp(d): refused where d is a NaN or above 0.
+pub fn exp(d: f64) -> Answer
+    ensures { λ r. ⌜ r ≡ expAnswer d ⌝ }
+{
+    answered(d <= 0.0, exp_of(d))
+}
+
+// How many binary digits q has.
+fn size_of(q: u64) -> u64
+    requires { ⌜ 0 < q ⌝ }
+    ensures { λ r. ⌜ (r ≡ size q) × (0 < r) ⌝ }
+{
+    64 - (u64::leading_zeros(q) as u64)
+}
+
+// The thirty bits of the logarithm to base 2 of m / 2^31.
+fn log_bits(m: u64) -> u64
+    requires { ⌜ m < 2 ^ 32 ⌝ }
+    ensures { λ r. ⌜ (r ≡ logBits 30 m 0) × (r < 2 ^ 30) ⌝ }
+{
+    let mut a = m;
+    let mut f: u64 = 0;
+    let mut i: usize = 0;
+    while i < 30 {
+        let b = (a * a) >> 31;
+        if b >= 0x1_0000_0000 {
+            a = b >> 1;
+            f = f * 2 + 1;
+        } else {
+            a = b;
+            f = f * 2;
+        }
+        i += 1;
+    }
+    f
+}
+
+// e·2^30 + f, for the exponent e = size - 1075, from -1074 up: an f64 holds it.
+fn join(size: u64, f: u64) -> i64
+    requires { ⌜ (size ≤ 2098) × (f < 2 ^ 30) ⌝ }
+    ensures { λ r. ⌜ (r ≡ joined (pos size -ℤ pos 1075) f) × T (inFloat binary64 r) ⌝ }
+{
+    let e = (size as i64) - 1075;
+    e * 1073741824 + (f as i64)
+}
+
+// e·2^30 + F of the x above 0 with these bits.
+fn ln_fixed(bits: u64) -> i64
+    requires { ⌜ (0 < bits) × (fieldOf bits < 2047) ⌝ }
+    ensures { λ r. ⌜ (r ≡ lnFixed (unitsOf (ofBits binary64 bits))) × T (inFloat binary64 r) ⌝ }
+{
+    let q = digits(bits);
+    let k = size_of(q);
+    let f = log_bits((q << (64 - k)) >> 32);
+    join(place(bits) + k, f)
+}
+
+// ln(x) for x at least 0, minus infinity at either zero; minus infinity for any other x.
+pub fn ln_of(x: f64) -> f64
+    ensures { λ r. ⌜ r ≡ lnOf x ⌝ }
+{
+    if 0.0 < x {
+        let bits = f64::to_bits(x);
+        if bits == 0x7ff0_0000_0000_0000 {
+            return x;
+        }
+        let n = ln_fixed(bits);
+        (n as f64) * 9.313225746154785e-10 * 0.6931471805599453
+    } else {
+        minus_infinity()
+    }
+}
+
+// ln(x): refused where x is a NaN or below 0.
+pub fn ln(x: f64) -> Answer
+    ensures { λ r. ⌜ r ≡ lnAnswer x ⌝ }
+{
+    answered(0.0 <= x, ln_of(x))
+}
+
+// 1 - q/2 + q·q/6 - .., from the inside.
+fn horner(q: f64) -> f64
+    ensures { λ r. ⌜ r ≡ Ln1m.horner 12 q one ⌝ }
+{
+    let mut h: f64 = 1.0;
+    let mut k: u32 = 12;
+    while 2 <= k {
+        h = 1.0 - q / (k as f64) * h;
+        k -= 1;
+    }
+    h
+}
+
+// ln(1 - exp(p)) for p at most 0, minus infinity at either zero; minus infinity for any other p.
+pub fn ln_1m_of(p: f64) -> f64
+    ensures { λ r. ⌜ r ≡ ln1mOf p ⌝ }
+{
+    if p < -0.693 {
+        return ln_of(1.0 - exp_of(p));
+    }
+    let q = magnitude(p);
+    ln_of(q * horner(q))
+}
+
+// ln(1 - exp(p)): refused where p is a NaN or above 0.
+pub fn ln_1m_exp(p: f64) -> Answer
+    ensures { λ r. ⌜ r ≡ ln1mAnswer p ⌝ }
+{
+    answered(p <= 0.0, ln_1m_of(p))
+}
