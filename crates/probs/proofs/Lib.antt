@@ -1,0 +1,9 @@
+pub mod Largest
+pub mod Loops
+pub mod Peaks
+pub mod Domains
+pub mod Bounds
+pub mod Pairs
+pub mod Factors
+pub mod Overshoot
+pub mod Examples

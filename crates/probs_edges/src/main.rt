@@ -1,0 +1,206 @@
+// The leaves on every edge value, on every pair of them and on every run of them, so that each rule of document 01 meets its border. The
+// first lines give the values, each as its number and its bits. A line after them is a call, the numbers of its arguments, the number of
+// its refusal, the table and place that it names, and the bits of its value. The file stdout beside src/ has what the rules make of each.
+use answer::Answer;
+use answer::number;
+use order::is_number;
+use order::minus_infinity;
+use probs::LogProb;
+use probs::PHREDProb;
+use probs::Prob;
+ghost use Prim.Native.Nat.{_≤_};
+ghost use lib.ListN.{length};
+
+// Both infinities, NaN, both zeros, the least number above 0, neighbours of 1 and of -1, and both sides of ln_1m_exp's border.
+fn edges() -> [f64; 16] {
+    [
+        -4.0,
+        -4.000000000000001,
+        -1.0,
+        -1.0000000000000002,
+        -1.0000000000000004,
+        minus_infinity(),
+        -0.693,
+        -0.694,
+        -0.0,
+        0.0,
+        5e-324,
+        2.220446049250313e-16,
+        0.0 / 0.0,
+        1.0,
+        1.0000000000000002,
+        1.0 / 0.0,
+    ]
+}
+
+fn text(s: &[u8]) {
+    io::write_all(1, s);
+}
+
+fn count(n: usize) {
+    text(b" ");
+    io::print_decimal(1, n as u64);
+}
+
+// The bits of x as 16 hexadecimal digits, and a NaN by its name.
+fn bits(x: f64) {
+    text(b" ");
+    if is_number(x) {
+        io::print_hex(1, f64::to_bits(x), 16);
+    } else {
+        text(b"nan");
+    }
+}
+
+// The end of a line.
+fn answer(a: Answer) {
+    let refusal = a.refusal;
+    count(number(refusal) as usize);
+    count(a.table as usize);
+    count(a.place);
+    bits(a.value);
+    text(b"\n");
+}
+
+fn verdict(yes: bool) {
+    if yes {
+        text(b" yes\n");
+    } else {
+        text(b" no\n");
+    }
+}
+
+fn call(name: &[u8], i: usize, a: Answer) {
+    text(name);
+    count(i);
+    answer(a);
+}
+
+fn call_two(name: &[u8], i: usize, j: usize, a: Answer) {
+    text(name);
+    count(i);
+    call(b"", j, a);
+}
+
+// The calls on one number, the i-th.
+fn one(i: usize, x: f64) {
+    text(b"is_valid");
+    count(i);
+    verdict(LogProb(x).is_valid());
+    call(b"checked", i, Prob::checked(x));
+    call(b"ln_one_minus_exp", i, LogProb(x).ln_one_minus_exp());
+    call(b"Prob::from_log_prob", i, Prob::from_log_prob(LogProb(x)));
+    call(b"LogProb::from_prob", i, LogProb::from_prob(Prob(x)));
+    call(
+        b"LogProb::from_phred_prob",
+        i,
+        LogProb::from_phred_prob(PHREDProb(x)),
+    );
+    call(
+        b"PHREDProb::from_log_prob",
+        i,
+        PHREDProb::from_log_prob(LogProb(x)),
+    );
+}
+
+// The calls on two numbers, the i-th and the j-th.
+fn two(i: usize, j: usize, x: f64, y: f64) {
+    call_two(
+        b"cap_numerical_overshoot",
+        i,
+        j,
+        LogProb(x).cap_numerical_overshoot(y),
+    );
+    call_two(b"ln_add_exp", i, j, LogProb(x).ln_add_exp(LogProb(y)));
+    call_two(b"ln_sub_exp", i, j, LogProb(x).ln_sub_exp(LogProb(y)));
+}
+
+// The numbers of a slice, on a line of their own.
+fn show(xs: &[f64]) {
+    let mut i = 0;
+    while i < xs.len() {
+        bits(xs[i]);
+        i += 1;
+    }
+    text(b"\n");
+}
+
+// The calls on the numbers from the a-th to the one before the b-th: an output of five places, all 7 before, is shown after.
+fn run(xs: &[f64], a: usize, b: usize)
+    requires { ⌜ (a ≤ b) × (b ≤ length (now xs)) ⌝ }
+{
+    let mut sums = [7.0, 7.0, 7.0, 7.0, 7.0];
+    let part = &xs[a..b];
+    call_two(b"ln_sum_exp", a, b, LogProb::ln_sum_exp(part));
+    call_two(
+        b"ln_cumsum_exp",
+        a,
+        b,
+        LogProb::ln_cumsum_exp(part, &mut sums),
+    );
+    show(&sums);
+}
+
+fn values(xs: &[f64]) {
+    let mut i = 0;
+    while i < xs.len() {
+        text(b"value");
+        count(i);
+        bits(xs[i]);
+        text(b"\n");
+        i += 1;
+    }
+}
+
+fn each(xs: &[f64]) {
+    let mut i = 0;
+    while i < xs.len() {
+        one(i, xs[i]);
+        i += 1;
+    }
+}
+
+fn with_each(xs: &[f64], i: usize, x: f64) {
+    let mut j = 0;
+    while j < xs.len() {
+        two(i, j, x, xs[j]);
+        j += 1;
+    }
+}
+
+fn each_pair(xs: &[f64]) {
+    let mut i = 0;
+    while i < xs.len() {
+        with_each(xs, i, xs[i]);
+        i += 1;
+    }
+}
+
+fn runs_from(xs: &[f64], a: usize)
+    requires { ⌜ a ≤ length (now xs) ⌝ }
+{
+    let mut b = a;
+    while b <= xs.len() {
+        run(xs, a, b);
+        b += 1;
+    }
+}
+
+fn each_run(xs: &[f64]) {
+    let mut a = 0;
+    while a < xs.len() {
+        runs_from(xs, a);
+        a += 1;
+    }
+}
+
+fn main() {
+    let xs = edges();
+    values(&xs);
+    bits(LogProb::ln_zero().0);
+    bits(LogProb::LN_ONE.0);
+    text(b"\n");
+    each(&xs);
+    each_pair(&xs);
+    each_run(&xs);
+}
