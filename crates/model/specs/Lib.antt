@@ -1,0 +1,5 @@
+pub mod Lent
+pub mod Good
+pub mod Checks
+pub mod Accepted
+pub mod Model

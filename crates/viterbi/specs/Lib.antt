@@ -1,0 +1,5 @@
+pub mod Best
+pub mod Walk
+pub mod Score
+pub mod Call
+pub mod Inner
