@@ -1,0 +1,22 @@
+-- `likelihood::last_sum` meets its contract, by its one test. Assumes nothing.
+use borrow.Author.Needs.{needs}
+use Rattle.likelihood.specs.Inner.{lastSum}
+use Rattle.likelihood.proofs.Strides.{last-readable, last-backward}
+use Rattle.likelihood.proofs.last_sum.Statement.{statement}
+use Rattle.likelihood.proofs.last_sum.Tie as tie
+
+row-sum-requires : tie.Need-row-sum-requires
+row-sum-requires c κs = last-readable _ _ _ _ (c .before .before .before .before .before .pre)
+
+returns : tie.Need-returns
+returns c = rw (c .before .if1 .taken) (last-backward _ _ _ _ (c .before .before .before .before .before .before .pre) _ (c .row-sum .ensures))
+
+end-sum-requires : tie.Need-end-sum-requires
+end-sum-requires c κs = search needs
+
+returns-2 : tie.Need-returns-2
+unfolding lastSum
+returns-2 c = rw (c .before .if1 .left) (c .end-sum .ensures)
+
+pub last-sum-spec : {M : Type 1} → statement M
+last-sum-spec = tie.close (tie.spec row-sum-requires returns end-sum-requires returns-2)
