@@ -1,0 +1,12 @@
+pub mod First
+pub mod Held
+pub mod Emitted
+pub mod Whole
+pub mod Shares
+pub mod Let
+pub mod Mass
+pub mod Same
+pub mod Outcome
+pub mod Bounds
+pub mod Again
+pub mod Examples

@@ -1,0 +1,5 @@
+pub mod First
+pub mod Pass
+pub mod Rows
+pub mod Call
+pub mod Remade

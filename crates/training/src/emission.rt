@@ -1,0 +1,37 @@
+// How much of a state's time goes to each symbol.
+use crate::Pass;
+use crate::occupancy::occupancy;
+use model::entry;
+use order::minus_infinity;
+use probs::pair::ln_add;
+ghost use Prim.Native.Nat.{ℕ, _<_};
+ghost use Rattle.training.specs.Pass.{emitted};
+ghost use Rattle.training.specs.Rows.{rowsOf, Standing, Known, Holds};
+
+// The occupancies of state i by symbol, each symbol's added up in time order.
+pub(crate) fn emission_sums(
+    pass: Pass,
+    samples: &[u16],
+    alpha: &[f64],
+    beta: &[f64],
+    i: usize,
+) -> [f64; 256]
+    requires { ⌜ Standing pass (now alpha) (now beta) × Known pass (now samples) × (i < pass .shape .states) ⌝ }
+    ensures { λ r. ⌜ Holds (pass .shape .symbols)
+        (λ (x : ℕ). emitted (rowsOf pass (now (alpha .entry)) (now (beta .entry))) (now (samples .entry)) i x (pass .samples)) r ⌝ }
+{
+    let n = pass.samples;
+    let symbols = pass.shape.symbols;
+    let none = minus_infinity();
+    let mut sums = [none; 256];
+    let mut t = 0;
+    while t < n {
+        let x = samples[t] as usize;
+        sums[x] = ln_add(
+            entry(&sums[..symbols], x),
+            occupancy(pass, alpha, beta, i, t),
+        );
+        t += 1;
+    }
+    sums
+}
