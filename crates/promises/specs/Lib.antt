@@ -1,0 +1,3 @@
+pub mod BestPath
+pub mod Calls
+pub mod Unique
