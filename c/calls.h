@@ -1,0 +1,2 @@
+/* How many of the calls in calls.c answer wrongly. */
+int calls_wrong(void);
