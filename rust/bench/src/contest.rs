@@ -1,0 +1,85 @@
+//! Times rivals in turn and prints their ratios.
+
+use std::time::Instant;
+
+/// How often each rival has a turn, and how long a turn is at least.
+const TURNS: usize = 15;
+const SECONDS: f64 = 0.002;
+
+/// One way to do the same work.
+pub type Rival<'a> = Box<dyn FnMut() + 'a>;
+
+/// Plain Rust, and the others where they are at hand.
+pub struct Rivals<'a> {
+    pub plain: Rival<'a>,
+    pub bio: Option<Rival<'a>>,
+    pub library: Option<Rival<'a>>,
+}
+
+/// Seconds for one run of each rival: the best turn of each, the turns taken one after the other so that what else the
+/// machine does falls on all alike.
+struct Times {
+    plain: f64,
+    bio: Option<f64>,
+    library: Option<f64>,
+}
+
+impl Rivals<'_> {
+    fn times(mut self) -> Times {
+        let mut times = Times {
+            plain: f64::INFINITY,
+            bio: self.bio.as_ref().map(|_| f64::INFINITY),
+            library: self.library.as_ref().map(|_| f64::INFINITY),
+        };
+        for _ in 0..TURNS {
+            times.plain = times.plain.min(turn(&mut self.plain));
+            better(&mut times.bio, &mut self.bio);
+            better(&mut times.library, &mut self.library);
+        }
+        times
+    }
+
+    /// Times the rivals and prints a line; each does so many calls in a run.
+    pub fn print(self, name: &str, calls: usize) {
+        let times = self.times();
+        let ratio = |over: Option<f64>, under: Option<f64>| match (over, under) {
+            (Some(over), Some(under)) => format!("{:.2}", over / under),
+            _ => "-".to_string(),
+        };
+        let plain = Some(times.plain);
+        println!(
+            "{name:<28} {:>14.0} {:>15} {:>13} {:>12}",
+            times.plain * 1e9 / calls as f64,
+            ratio(times.library, plain),
+            ratio(times.library, times.bio),
+            ratio(times.bio, plain)
+        );
+    }
+}
+
+fn better(best: &mut Option<f64>, rival: &mut Option<Rival>) {
+    if let (Some(best), Some(rival)) = (best, rival) {
+        *best = best.min(turn(rival));
+    }
+}
+
+/// Seconds for one run, from as many runs as fill a turn.
+fn turn(rival: &mut Rival) -> f64 {
+    let started = Instant::now();
+    let mut runs = 0;
+    loop {
+        rival();
+        runs += 1;
+        let seconds = started.elapsed().as_secs_f64();
+        if seconds >= SECONDS {
+            return seconds / f64::from(runs);
+        }
+    }
+}
+
+pub fn print_heading(title: &str) {
+    println!(
+        "\n{title:<28} {:>14} {:>15} {:>13} {:>12}",
+        "plain Rust, ns", "library / plain", "library / bio", "bio / plain"
+    );
+}

@@ -1,0 +1,290 @@
+//! `freeze FILE`: writes the frozen list (FROZEN.md), after holding each of its answers against bio's.
+
+use compare::case::{self, Case, Kind, Sizes};
+use compare::damage;
+use compare::engine::REFERENCE;
+use compare::frozen::{write, Frozen, FILL, NAMES};
+use compare::leaves::{argument, near, slice};
+use compare::lent::{Call, Output, CALLS};
+use compare::likeness;
+use compare::random::Random;
+use compare::verdict::Verdict;
+use oracle::Modes;
+use reference::{leaves, Answer, Shape};
+use std::process::ExitCode;
+
+const SEED: u64 = 422;
+
+fn main() -> ExitCode {
+    let Some(path) = std::env::args().nth(1) else {
+        eprintln!("usage: freeze FILE");
+        return ExitCode::FAILURE;
+    };
+    let Some(modes) = oracle::modes() else {
+        eprintln!("bio 4.2.2: not found (BIO_SOURCE names its folder); no list is written");
+        return ExitCode::FAILURE;
+    };
+    let mut list = List {
+        modes,
+        random: Random::new(SEED),
+        cases: Vec::new(),
+    };
+    list.gate_posts();
+    list.models();
+    list.damaged();
+    list.kernels();
+    list.leaves();
+    println!("{} cases", list.cases.len());
+    match std::fs::write(&path, write(&list.cases)) {
+        Ok(()) => ExitCode::SUCCESS,
+        Err(error) => {
+            eprintln!("{path}: {error}");
+            ExitCode::FAILURE
+        }
+    }
+}
+
+struct List {
+    modes: Modes,
+    random: Random,
+    cases: Vec<Frozen>,
+}
+
+/// An output of this length, filled.
+fn filled(call: Call, place: usize, length: usize) -> Output {
+    if call == Call::Viterbi && place != 1 {
+        Output::Bytes(vec![FILL; length])
+    } else {
+        Output::Numbers(vec![f64::from_bits(u64::from_le_bytes([FILL; 8])); length])
+    }
+}
+
+impl List {
+    /// Freezes a call on outputs with so much surplus.
+    fn call(&mut self, call: Call, case: &Case, surplus: usize) {
+        self.agrees(call, case);
+        let needed = call.needed(case);
+        let lengths: Vec<usize> = needed.iter().map(|needed| needed + surplus).collect();
+        self.freeze(call, case, &lengths);
+    }
+
+    /// Freezes a call on outputs of these lengths.
+    fn freeze(&mut self, call: Call, case: &Case, lengths: &[usize]) {
+        let outputs = lengths.iter().enumerate();
+        let mut outputs: Vec<Output> = outputs.map(|(place, length)| filled(call, place, *length)).collect();
+        let answer = (REFERENCE.call)(call, case, &mut outputs);
+        self.cases.push(Frozen::of_model(call, case, &answer, &outputs));
+    }
+
+    /// Holds a case against bio.
+    fn agrees(&self, call: Call, case: &Case) {
+        let verdict = match call {
+            Call::Viterbi => likeness::viterbi(&self.modes.published, case),
+            Call::Forward => likeness::forward(&self.modes.kernels, case),
+            Call::Backward => likeness::backward(&self.modes.kernels, case),
+            Call::BaumWelch => likeness::pass(&self.modes.kernels, case),
+        };
+        must_agree(call.name(), &verdict);
+    }
+
+    /// The models of the gate-post examples and of the intended differences, on all calls.
+    fn gate_posts(&mut self) {
+        let [p, z] = [model_p(), zeros(2)];
+        let mut unreachable = zeros(3);
+        unreachable.initial.fill(f64::NEG_INFINITY);
+        let mut above_zero = zeros(1);
+        (above_zero.transition, above_zero.emission, above_zero.initial) = (vec![-0.1], vec![-0.1, -0.1], vec![-0.9]);
+        let mut nearly_massless = zeros(2);
+        nearly_massless.initial[0] = -25.0;
+        let models = [
+            (p.clone(), vec![0, 1, 1]),
+            (p.clone(), vec![1]),
+            (p, vec![]),
+            (z.clone(), vec![0, 0]),
+            (z, vec![0]),
+            (unreachable, vec![0, 0]),
+            (above_zero, vec![0, 0]),
+            (nearly_massless, vec![0, 0]),
+        ];
+        for (model, samples) in models {
+            let case = Case { samples, ..model };
+            CALLS.into_iter().for_each(|call| self.call(call, &case, 1));
+        }
+    }
+
+    /// Random models of every kind of entry.
+    fn models(&mut self) {
+        let kinds = [
+            Kind::Ordinary,
+            Kind::Normalised,
+            Kind::Ties,
+            Kind::Sparse,
+            Kind::Zeros,
+            Kind::Subnormal,
+            Kind::Huge,
+            Kind::Mixed,
+        ];
+        for (states, symbols, samples) in [(1, 1, 1), (2, 3, 4), (3, 2, 5), (4, 4, 7), (5, 3, 2)] {
+            let sizes = Sizes {
+                states,
+                symbols,
+                samples,
+            };
+            for kind in kinds {
+                let case = case::of_kinds(sizes, [kind; 4], &mut self.random);
+                let surplus = self.random.below(3);
+                CALLS.into_iter().for_each(|call| self.call(call, &case, surplus));
+            }
+        }
+        let largest = Sizes {
+            states: 16,
+            symbols: 12,
+            samples: 40,
+        };
+        let case = case::ordinary(largest, &mut self.random);
+        CALLS.into_iter().for_each(|call| self.call(call, &case, 0));
+    }
+
+    /// Every refusal from 1 to 8 in every call that gives it, several times; 3 once, on the least number of samples.
+    fn damaged(&mut self) {
+        for call in CALLS {
+            let too_many = Case {
+                samples: vec![0; 4097],
+                ..zeros(1)
+            };
+            self.freeze(call, &too_many, &call.needed(&zeros(1)));
+            let refusals = [1, 2, 4, 5, 6, 7, 8].into_iter().flat_map(|refusal| [refusal; 4]);
+            for refusal in refusals.filter(|refusal| *refusal != 4 || call.needs_samples()) {
+                let sizes = Sizes {
+                    states: 1 + self.random.below(3),
+                    symbols: 1 + self.random.below(3),
+                    samples: 1 + self.random.below(4),
+                };
+                let case = case::any(sizes, &mut self.random);
+                let damaged = damage::single(refusal, call, &case, &mut self.random);
+                self.damaged_call(call, &case, &damaged);
+            }
+        }
+    }
+
+    fn damaged_call(&mut self, call: Call, case: &Case, damaged: &damage::Damaged) {
+        let mut lengths = call.needed(case);
+        for (place, length) in &damaged.cuts {
+            lengths[*place] = *length;
+        }
+        self.freeze(call, &damaged.case, &lengths);
+        let answer = self.cases.last().expect("just pushed").answer;
+        let (refusal, table, place) = damaged.named;
+        assert_eq!(answer[..3], [u64::from(refusal), u64::from(table), place as u64]);
+    }
+
+    /// The kernels on each power of two that they tell apart, and on random arguments.
+    fn kernels(&mut self) {
+        let powers: Vec<f64> = (-34..6).step_by(3).map(|place| 2.0_f64.powi(place)).collect();
+        let smallest = [1, 3, 0x000f_ffff_ffff_ffff, 0x0010_0000_0000_0000].map(f64::from_bits);
+        let random: Vec<f64> = (0..12).map(|_| 43.0 * self.random.unit()).collect();
+        let last = [42.97, 42.975_125, 42.976, f64::MAX];
+        for x in [&powers[..], &smallest, &random, &last].concat() {
+            for (name, verdict) in compare::leaves::against_bio_on(&self.modes, -x, x, &[]) {
+                must_agree(name, &verdict);
+            }
+            self.cases
+                .push(Frozen::of_leaf(NAMES[4], &[-x], &leaves::exp(-x), None));
+            self.cases.push(Frozen::of_leaf(NAMES[5], &[x], &leaves::ln(x), None));
+            self.cases
+                .push(Frozen::of_leaf(NAMES[6], &[-x], &leaves::ln_one_minus_exp(-x), None));
+        }
+    }
+
+    /// Every leaf on edges and random arguments, with every refusal that it gives.
+    fn leaves(&mut self) {
+        for _ in 0..12 {
+            let x = argument(&mut self.random);
+            let y = near(x, &mut self.random);
+            let mut xs = slice(&mut self.random);
+            xs.truncate(9);
+            self.leaves_on(x, y, &xs);
+        }
+        self.leaves_on(f64::NAN, -1.0, &[-1.0, f64::NAN]);
+        self.leaves_on(-1.0, f64::NAN, &[f64::INFINITY, -1.0]);
+        self.leaves_on(-2.0, -1.0, &[]);
+        self.leaves_on(1.0, 0.5, &[f64::NEG_INFINITY]);
+        self.leaves_on(f64::INFINITY, f64::INFINITY, &[-0.0]);
+        self.leaves_on(0.0, -0.0, &[-3.0, -1.0, -2.0, -1.0]);
+        self.leaves_on(-0.0, 0.0, &[f64::NEG_INFINITY, -700.0, -1.0]);
+        self.leaves_on(f64::NEG_INFINITY, -1.0, &[-1e308, -1.0, 1e308]);
+    }
+
+    fn leaves_on(&mut self, x: f64, y: f64, xs: &[f64]) {
+        for (name, verdict) in compare::leaves::against_bio_on(&self.modes, x, y, xs) {
+            must_agree(name, &verdict);
+        }
+        let valid = Answer::done(f64::from(u8::from(leaves::is_valid(x))));
+        let answers = [
+            leaves::exp(x),
+            leaves::ln(x),
+            leaves::ln_one_minus_exp(x),
+            leaves::ln_sum_exp(xs),
+            leaves::ln_add_exp(x, y),
+            leaves::ln_sub_exp(x, y),
+        ];
+        let arguments: [&[f64]; 6] = [&[x], &[x], &[x], xs, &[x, y], &[x, y]];
+        for (name, (answer, arguments)) in NAMES[4..10].iter().zip(answers.iter().zip(arguments)) {
+            self.cases.push(Frozen::of_leaf(name, arguments, answer, None));
+        }
+        self.cumulative(xs);
+        let capped = leaves::cap_numerical_overshoot(x, y);
+        self.cases.push(Frozen::of_leaf(NAMES[11], &[x, y], &capped, None));
+        let answers = [
+            valid,
+            leaves::checked(x),
+            leaves::log_of_prob(x),
+            leaves::prob_of_log(x),
+            leaves::phred_of_log(x),
+            leaves::log_of_phred(x),
+        ];
+        for (name, answer) in NAMES[12..].iter().zip(&answers) {
+            self.cases.push(Frozen::of_leaf(name, &[x], answer, None));
+        }
+    }
+
+    /// Cumulative sums into an output with surplus, and into one that is too short.
+    fn cumulative(&mut self, xs: &[f64]) {
+        for length in [Some(xs.len() + 2), xs.len().checked_sub(1)].into_iter().flatten() {
+            let mut output = vec![f64::from_bits(u64::from_le_bytes([FILL; 8])); length];
+            let answer = leaves::ln_cumsum_exp(xs, &mut output);
+            self.cases.push(Frozen::of_leaf(NAMES[10], xs, &answer, Some(&output)));
+        }
+    }
+}
+
+fn must_agree(what: &str, verdict: &Verdict) {
+    if let Some(text) = &verdict.wrong {
+        panic!("{what} differs from bio: {text}");
+    }
+}
+
+/// S states and two symbols, all entries 0.0 and no end state.
+fn zeros(states: usize) -> Case {
+    Case {
+        shape: Shape {
+            states,
+            symbols: 2,
+            ends: false,
+        },
+        transition: vec![0.0; states * states],
+        emission: vec![0.0; states * 2],
+        initial: vec![0.0; states],
+        end: vec![0.0; states],
+        samples: Vec::new(),
+    }
+}
+
+fn model_p() -> Case {
+    Case {
+        transition: vec![-1.0, -2.0, -2.0, -1.0],
+        emission: vec![-1.0, -3.0, -3.0, -1.0],
+        initial: vec![-1.0, -2.0],
+        ..zeros(2)
+    }
+}

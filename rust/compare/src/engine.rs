@@ -1,0 +1,99 @@
+//! Who answers the calls: the reference, and the proved library where it is linked.
+
+#[cfg(proved)]
+mod proved;
+
+use crate::case::Case;
+use crate::lent::{Call, Output, CALLS};
+use reference::{leaves, Answer, Estimates};
+
+/// Something that answers calls.
+#[derive(Clone, Copy)]
+pub struct Engine {
+    /// The calls on a model that it answers.
+    pub calls: &'static [Call],
+    /// A call on a model, on lent memory.
+    pub call: fn(Call, &Case, &mut [Output]) -> Answer,
+    pub leaves: Leaves,
+}
+
+/// A leaf of one argument, and one of two.
+pub type One = fn(f64) -> Answer;
+pub type Two = fn(f64, f64) -> Answer;
+
+/// The leaves and kernels that the library exports.
+#[derive(Clone, Copy)]
+pub struct Leaves {
+    pub exp: One,
+    pub ln: One,
+    pub ln_one_minus_exp: One,
+    pub ln_add_exp: Two,
+    pub ln_sub_exp: Two,
+    pub cap_numerical_overshoot: Two,
+    pub ln_sum_exp: fn(&[f64]) -> Answer,
+    pub ln_cumsum_exp: fn(&[f64], &mut [f64]) -> Answer,
+}
+
+/// The independent reference.
+pub const REFERENCE: Engine = Engine {
+    calls: &CALLS,
+    call: reference_call,
+    leaves: Leaves {
+        exp: leaves::exp,
+        ln: leaves::ln,
+        ln_one_minus_exp: leaves::ln_one_minus_exp,
+        ln_add_exp: leaves::ln_add_exp,
+        ln_sub_exp: leaves::ln_sub_exp,
+        cap_numerical_overshoot: leaves::cap_numerical_overshoot,
+        ln_sum_exp: leaves::ln_sum_exp,
+        ln_cumsum_exp: leaves::ln_cumsum_exp,
+    },
+};
+
+impl Engine {
+    pub fn answers(&self, call: Call) -> bool {
+        self.calls.contains(&call)
+    }
+}
+
+/// The proved library; none where it is not linked.
+#[cfg(proved)]
+pub fn library() -> Option<Engine> {
+    Some(proved::LIBRARY)
+}
+
+/// The proved library; none where it is not linked.
+#[cfg(not(proved))]
+pub fn library() -> Option<Engine> {
+    None
+}
+
+fn reference_call(call: Call, case: &Case, outputs: &mut [Output]) -> Answer {
+    let model = case.model();
+    match (call, outputs) {
+        (Call::Viterbi, [Output::Bytes(path), Output::Numbers(values), Output::Bytes(from)]) => {
+            reference::viterbi(&model, &case.samples, path, values, from)
+        }
+        (Call::Forward, [Output::Numbers(values)]) => reference::forward(&model, &case.samples, values),
+        (Call::Backward, [Output::Numbers(values)]) => reference::backward(&model, &case.samples, values),
+        (Call::BaumWelch, outputs) => reference::baum_welch(&model, &case.samples, &mut estimates(outputs)),
+        _ => unreachable!("each call is lent its own outputs"),
+    }
+}
+
+/// The six outputs of a pass, as its argument.
+fn estimates(outputs: &mut [Output]) -> Estimates<'_> {
+    let mut numbers = outputs.iter_mut().map(|output| match output {
+        Output::Numbers(numbers) => numbers.as_mut_slice(),
+        Output::Bytes(_) => unreachable!("a pass writes numbers"),
+    });
+    let mut next = || numbers.next().expect("a pass has six outputs");
+    Estimates {
+        transition: next(),
+        emission: next(),
+        initial: next(),
+        end: next(),
+        alpha: next(),
+        beta: next(),
+    }
+}

@@ -1,0 +1,86 @@
+//! The proved library, by its raw calls.
+
+#[cfg(exports = "baum_welch")]
+use super::estimates;
+use super::{Engine, Leaves};
+use crate::case::Case;
+use crate::lent::{Call, Output};
+use reference::Answer;
+use wasnugram::raw;
+
+pub const LIBRARY: Engine = Engine {
+    calls: &[
+        #[cfg(exports = "viterbi")]
+        Call::Viterbi,
+        #[cfg(exports = "forward")]
+        Call::Forward,
+        #[cfg(exports = "backward")]
+        Call::Backward,
+        #[cfg(exports = "baum_welch")]
+        Call::BaumWelch,
+    ],
+    call,
+    leaves: Leaves {
+        exp: |d| answer(raw::exp(d)),
+        ln: |x| answer(raw::ln(x)),
+        ln_one_minus_exp: |p| answer(raw::ln_one_minus_exp(p)),
+        ln_add_exp: |first, second| answer(raw::ln_add_exp(first, second)),
+        ln_sub_exp: |p0, p1| answer(raw::ln_sub_exp(p0, p1)),
+        cap_numerical_overshoot: |value, epsilon| answer(raw::cap_numerical_overshoot(value, epsilon)),
+        ln_sum_exp: |xs| answer(raw::ln_sum_exp(xs)),
+        ln_cumsum_exp: |xs, out| answer(raw::ln_cumsum_exp(xs, out)),
+    },
+};
+
+fn answer(given: raw::Answer) -> Answer {
+    Answer {
+        refusal: given.refusal,
+        table: given.table,
+        place: given.place,
+        value: given.value,
+    }
+}
+
+fn call(call: Call, case: &Case, outputs: &mut [Output]) -> Answer {
+    let model = model(case);
+    answer(match (call, outputs) {
+        #[cfg(exports = "viterbi")]
+        (Call::Viterbi, [Output::Bytes(path), Output::Numbers(values), Output::Bytes(from)]) => {
+            raw::viterbi(&model, &case.samples, path, values, from)
+        }
+        #[cfg(exports = "forward")]
+        (Call::Forward, [Output::Numbers(values)]) => raw::forward(&model, &case.samples, values),
+        #[cfg(exports = "backward")]
+        (Call::Backward, [Output::Numbers(values)]) => raw::backward(&model, &case.samples, values),
+        #[cfg(exports = "baum_welch")]
+        (Call::BaumWelch, outputs) => raw::baum_welch(&model, &case.samples, &mut lent(outputs)),
+        _ => unreachable!("each call that is exported is lent its own outputs"),
+    })
+}
+
+fn model(case: &Case) -> wasnugram::Model<'_> {
+    wasnugram::Model {
+        shape: wasnugram::Shape {
+            states: case.shape.states,
+            symbols: case.shape.symbols,
+            ends: case.shape.ends,
+        },
+        transition: &case.transition,
+        emission: &case.emission,
+        initial: &case.initial,
+        end: &case.end,
+    }
+}
+
+#[cfg(exports = "baum_welch")]
+fn lent(outputs: &mut [Output]) -> wasnugram::Estimates<'_> {
+    let new = estimates(outputs);
+    wasnugram::Estimates {
+        transition: new.transition,
+        emission: new.emission,
+        initial: new.initial,
+        end: new.end,
+        alpha: new.alpha,
+        beta: new.beta,
+    }
+}

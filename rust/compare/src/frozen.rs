@@ -1,0 +1,160 @@
+//! The frozen list: cases with their whole answers as 8-byte words, for a program that has no Rust at hand.
+//!
+//! Words are little-endian. The first word is the number of cases. A case is the number of its words that follow, the
+//! number of its call, the answer (refusal, table, place, the bits of the value), and its lists; a list is its length
+//! and its elements, one to a word: whole numbers as they are, f64 by their bits. FROZEN.md says which lists each call
+//! has.
+
+use crate::case::Case;
+use crate::lent::{Call, Output};
+use reference::Answer;
+
+/// Outputs are filled with this byte before the call.
+pub const FILL: u8 = 0xa5;
+
+/// The most words that a case has, its length not counted.
+pub const MOST_WORDS: usize = 8192;
+
+/// The calls of the list, by number.
+pub const NAMES: [&str; 18] = [
+    "viterbi",
+    "forward",
+    "backward",
+    "baum_welch",
+    "exp",
+    "ln",
+    "ln_one_minus_exp",
+    "ln_sum_exp",
+    "ln_add_exp",
+    "ln_sub_exp",
+    "ln_cumsum_exp",
+    "cap_numerical_overshoot",
+    "is_valid",
+    "Prob::checked",
+    "Prob to LogProb",
+    "LogProb to Prob",
+    "LogProb to PHREDProb",
+    "PHREDProb to LogProb",
+];
+
+/// One case of the list.
+#[derive(Clone, Debug, PartialEq)]
+pub struct Frozen {
+    pub call: u64,
+    /// Refusal, table, place and the bits of the value.
+    pub answer: [u64; 4],
+    pub lists: Vec<Vec<u64>>,
+}
+
+impl Frozen {
+    /// A call on a model: the shape, the four tables, the samples, then each output as it is left.
+    pub fn of_model(call: Call, case: &Case, answer: &Answer, after: &[Output]) -> Frozen {
+        let shape = [
+            case.shape.states as u64,
+            case.shape.symbols as u64,
+            u64::from(case.shape.ends),
+        ];
+        let mut lists = vec![shape.to_vec()];
+        lists.extend(case.model().tables().iter().map(|table| bits(table)));
+        lists.push(case.samples.iter().map(|sample| u64::from(*sample)).collect());
+        lists.extend(after.iter().map(Output::bits));
+        Frozen {
+            call: call as u64,
+            answer: answer_words(answer),
+            lists,
+        }
+    }
+
+    /// A leaf: its arguments, then its output, if it has one, as it is left.
+    pub fn of_leaf(name: &str, arguments: &[f64], answer: &Answer, output: Option<&[f64]>) -> Frozen {
+        let call = NAMES
+            .iter()
+            .position(|known| *known == name)
+            .expect("a call of the list");
+        let mut lists = vec![bits(arguments)];
+        lists.extend(output.map(bits));
+        Frozen {
+            call: call as u64,
+            answer: answer_words(answer),
+            lists,
+        }
+    }
+
+    fn words(&self) -> Vec<u64> {
+        let mut words = vec![self.call];
+        words.extend(self.answer);
+        for list in &self.lists {
+            words.push(list.len() as u64);
+            words.extend(list);
+        }
+        words
+    }
+}
+
+fn bits(numbers: &[f64]) -> Vec<u64> {
+    numbers.iter().map(|number| number.to_bits()).collect()
+}
+
+fn answer_words(answer: &Answer) -> [u64; 4] {
+    [
+        u64::from(answer.refusal),
+        u64::from(answer.table),
+        answer.place as u64,
+        answer.value.to_bits(),
+    ]
+}
+
+/// The bytes of a list.
+pub fn write(cases: &[Frozen]) -> Vec<u8> {
+    let mut words = vec![cases.len() as u64];
+    for case in cases {
+        let case = case.words();
+        assert!(case.len() <= MOST_WORDS, "a case of {} words", case.len());
+        words.push(case.len() as u64);
+        words.extend(case);
+    }
+    words.iter().flat_map(|word| word.to_le_bytes()).collect()
+}
+
+/// The cases of a list.
+pub fn read(bytes: &[u8]) -> Vec<Frozen> {
+    let mut words = bytes
+        .chunks_exact(8)
+        .map(|chunk| u64::from_le_bytes(chunk.try_into().expect("eight bytes")));
+    let mut take = |count: u64| -> Vec<u64> { words.by_ref().take(count as usize).collect() };
+    let count = take(1)[0];
+    (0..count)
+        .map(|_| {
+            let length = take(1)[0];
+            case_of(&take(length))
+        })
+        .collect()
+}
+
+fn case_of(words: &[u64]) -> Frozen {
+    let mut rest = &words[5..];
+    let mut lists = Vec::new();
+    while let Some((length, after)) = rest.split_first() {
+        let (list, after) = after.split_at(*length as usize);
+        lists.push(list.to_vec());
+        rest = after;
+    }
+    Frozen {
+        call: words[0],
+        answer: [words[1], words[2], words[3], words[4]],
+        lists,
+    }
+}
+
+#[cfg(test)]
+mod tests {
+    use super::*;
+
+    #[test]
+    fn reading_gives_what_was_written() {
+        let leaf = Frozen::of_leaf("exp", &[-1.0], &Answer::done(0.5), None);
+        let sums = Frozen::of_leaf("ln_cumsum_exp", &[], &Answer::refused(7, 0, 3), Some(&[0.0, -0.0]));
+        let cases = vec![leaf, sums];
+        assert_eq!(read(&write(&cases)), cases);
+    }
+}

@@ -1,0 +1,14 @@
+//! The comparison at scale: random and damaged models, the calls on lent memory, and what is held against what.
+
+pub mod case;
+pub mod comparison;
+pub mod damage;
+pub mod engine;
+pub mod frozen;
+pub mod leaves;
+pub mod lent;
+pub mod likeness;
+pub mod random;
+pub mod shrink;
+pub mod tally;
+pub mod verdict;

@@ -1,0 +1,151 @@
+//! The gate-post examples of the rules, each by its name there.
+
+use reference::{backward, baum_welch, forward, leaves, viterbi, Answer, Estimates, Model, Shape};
+
+const MINUS: f64 = f64::NEG_INFINITY;
+// As the rules write it, in decimal.
+#[allow(clippy::approx_constant)]
+const LN_2: f64 = 0.6931471805599453;
+
+struct Tables {
+    states: usize,
+    transition: Vec<f64>,
+    emission: Vec<f64>,
+    initial: Vec<f64>,
+    end: Vec<f64>,
+}
+
+impl Tables {
+    fn model(&self) -> Model<'_> {
+        Model {
+            shape: Shape {
+                states: self.states,
+                symbols: 2,
+                ends: false,
+            },
+            transition: &self.transition,
+            emission: &self.emission,
+            initial: &self.initial,
+            end: &self.end,
+        }
+    }
+}
+
+fn model_p() -> Tables {
+    Tables {
+        states: 2,
+        transition: vec![-1.0, -2.0, -2.0, -1.0],
+        emission: vec![-1.0, -3.0, -3.0, -1.0],
+        initial: vec![-1.0, -2.0],
+        end: vec![0.0; 2],
+    }
+}
+
+fn all_zero(states: usize) -> Tables {
+    Tables {
+        states,
+        transition: vec![0.0; states * states],
+        emission: vec![0.0; states * 2],
+        initial: vec![0.0; states],
+        end: vec![0.0; states],
+    }
+}
+
+fn decode(tables: &Tables, samples: &[u16]) -> (Vec<u8>, Answer) {
+    let cells = tables.states * samples.len();
+    let mut path = vec![9; samples.len()];
+    let answer = viterbi(
+        &tables.model(),
+        samples,
+        &mut path,
+        &mut vec![0.0; cells],
+        &mut vec![0; cells],
+    );
+    (path, answer)
+}
+
+fn assert_answer(answer: Answer, refusal: u8, table: u8, place: usize, value: f64) {
+    let expected = Answer {
+        refusal,
+        table,
+        place,
+        value,
+    };
+    assert!(answer.same_bits(&expected), "{answer:?} instead of {expected:?}");
+}
+
+#[test]
+fn p1_p2_p3_p4_paths_and_a_wrong_sample() {
+    let p = model_p();
+    let (path, answer) = decode(&p, &[0, 1, 1]);
+    assert_eq!(path, [0, 1, 1]);
+    assert_answer(answer, 0, 0, 0, -7.0);
+    let (path, answer) = decode(&p, &[1]);
+    assert_eq!(path, [1]);
+    assert_answer(answer, 0, 0, 0, -3.0);
+    let (path, answer) = decode(&p, &[]);
+    assert!(path.is_empty());
+    assert_answer(answer, 0, 0, 0, MINUS);
+    assert_answer(decode(&p, &[0, 1, 2]).1, 8, 4, 2, MINUS);
+}
+
+#[test]
+fn p5_p6_entries_that_are_not_good() {
+    let mut p = model_p();
+    p.transition[0] = f64::NAN;
+    assert_answer(decode(&p, &[0, 1, 1]).1, 7, 0, 0, MINUS);
+    let mut p = model_p();
+    p.emission[3] = f64::from_bits(1);
+    assert_answer(decode(&p, &[0, 1, 1]).1, 7, 1, 3, MINUS);
+    p.emission[3] = -0.0;
+    assert_eq!(decode(&p, &[0, 1, 1]).1.refusal, 0);
+}
+
+#[test]
+fn z1_z2_z3_ties_likelihood_and_nothing_reachable() {
+    let z = all_zero(2);
+    let (path, answer) = decode(&z, &[0, 0]);
+    assert_eq!(path, [1, 1]);
+    assert_answer(answer, 0, 0, 0, 0.0);
+    let mut values = [0.0; 2];
+    assert_answer(forward(&z.model(), &[0], &mut values), 0, 0, 0, LN_2);
+    assert_answer(backward(&z.model(), &[0], &mut values), 0, 0, 0, LN_2);
+    let mut three = all_zero(3);
+    three.initial.fill(MINUS);
+    let (path, answer) = decode(&three, &[0, 0]);
+    assert_eq!(path, [2, 2]);
+    assert_answer(answer, 0, 0, 0, MINUS);
+}
+
+#[test]
+fn k1_k2_kernels() {
+    assert_answer(leaves::exp(0.0), 0, 0, 0, 1.0);
+    assert_answer(leaves::exp(MINUS), 0, 0, 0, 0.0);
+    assert_answer(leaves::ln(1.0), 0, 0, 0, 0.0);
+    assert_answer(leaves::ln(2.0), 0, 0, 0, LN_2);
+    assert_answer(leaves::ln(0.5), 0, 0, 0, -LN_2);
+}
+
+#[test]
+fn s1_s2_sums() {
+    assert_answer(leaves::ln_sum_exp(&[f64::INFINITY, -1.0]), 0, 0, 0, f64::INFINITY);
+    assert_answer(leaves::ln_sub_exp(-1.0, -1.0), 0, 0, 0, MINUS);
+}
+
+#[test]
+fn z4_a_pass_on_one_sample_without_end() {
+    let z = all_zero(2);
+    let mut outputs = [[7.0; 4]; 6];
+    let [transition, emission, initial, end, alpha, beta] = &mut outputs;
+    let mut new = Estimates {
+        transition,
+        emission,
+        initial,
+        end,
+        alpha,
+        beta,
+    };
+    assert_answer(baum_welch(&z.model(), &[0], &mut new), 9, 0, 0, MINUS);
+    assert_eq!(outputs[..4], [[7.0; 4]; 4]);
+    assert_eq!(outputs[4..], [[0.0, 0.0, 7.0, 7.0]; 2]);
+}

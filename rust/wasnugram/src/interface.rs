@@ -1,0 +1,79 @@
+//! The C interface of the static library. A slice is a pointer and a length.
+
+#[repr(C)]
+#[derive(Clone, Copy)]
+pub struct Shape {
+    pub states: usize,
+    pub symbols: usize,
+    pub ends: u8,
+}
+
+#[repr(C)]
+#[derive(Clone, Copy)]
+pub struct Answer {
+    pub refusal: u8,
+    pub table: u8,
+    pub place: usize,
+    pub value: f64,
+}
+
+// An archive that lacks a call leaves its declaration unused.
+#[allow(dead_code)]
+#[rustfmt::skip]
+extern "C" {
+    pub fn wasnugram_viterbi(
+        shape: Shape,
+        transition: *const f64, transition_length: usize,
+        emission: *const f64, emission_length: usize,
+        initial: *const f64, initial_length: usize,
+        end: *const f64, end_length: usize,
+        samples: *const u16, samples_length: usize,
+        path: *mut u8, path_length: usize,
+        values: *mut f64, values_length: usize,
+        from: *mut u8, from_length: usize,
+    ) -> Answer;
+
+    pub fn wasnugram_forward(
+        shape: Shape,
+        transition: *const f64, transition_length: usize,
+        emission: *const f64, emission_length: usize,
+        initial: *const f64, initial_length: usize,
+        end: *const f64, end_length: usize,
+        samples: *const u16, samples_length: usize,
+        values: *mut f64, values_length: usize,
+    ) -> Answer;
+
+    pub fn wasnugram_backward(
+        shape: Shape,
+        transition: *const f64, transition_length: usize,
+        emission: *const f64, emission_length: usize,
+        initial: *const f64, initial_length: usize,
+        end: *const f64, end_length: usize,
+        samples: *const u16, samples_length: usize,
+        values: *mut f64, values_length: usize,
+    ) -> Answer;
+
+    pub fn wasnugram_baum_welch(
+        shape: Shape,
+        transition: *const f64, transition_length: usize,
+        emission: *const f64, emission_length: usize,
+        initial: *const f64, initial_length: usize,
+        end: *const f64, end_length: usize,
+        samples: *const u16, samples_length: usize,
+        new_transition: *mut f64, new_transition_length: usize,
+        new_emission: *mut f64, new_emission_length: usize,
+        new_initial: *mut f64, new_initial_length: usize,
+        new_end: *mut f64, new_end_length: usize,
+        alpha: *mut f64, alpha_length: usize,
+        beta: *mut f64, beta_length: usize,
+    ) -> Answer;
+
+    pub fn wasnugram_exp(d: f64) -> Answer;
+    pub fn wasnugram_ln(x: f64) -> Answer;
+    pub fn wasnugram_ln_one_minus_exp(p: f64) -> Answer;
+    pub fn wasnugram_ln_sum_exp(xs: *const f64, length: usize) -> Answer;
+    pub fn wasnugram_ln_add_exp(first: f64, second: f64) -> Answer;
+    pub fn wasnugram_ln_sub_exp(p0: f64, p1: f64) -> Answer;
+    pub fn wasnugram_ln_cumsum_exp(xs: *const f64, length: usize, out: *mut f64, out_length: usize) -> Answer;
+    pub fn wasnugram_cap_numerical_overshoot(value: f64, epsilon: f64) -> Answer;
+}
