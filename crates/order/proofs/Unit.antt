@@ -60,7 +60,7 @@ unit-complement (fin false n d) k =
     (round-unit (a - b * 1) a (mul-pos (omega arith) (down-pos d)) (omega arith))
 
 -- the quotient by k / 1, k from 1 up
-pub unit-div : (x : Float) (n : ℕ) (d : ℤ) → T (unit x) → down d ≤ n * up d → T (unit (div binary64 x (fin false n d)))
+unit-div : (x : Float) (n : ℕ) (d : ℤ) → T (unit x) → down d ≤ n * up d → T (unit (div binary64 x (fin false n d)))
 unfolding div
 unit-div nan n d h k = absurd h
 unit-div (inf s) n d h k = absurd h
