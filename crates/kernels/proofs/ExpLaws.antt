@@ -1,18 +1,16 @@
 -- Laws of exp: its value is from +0.0 to 1.0, whatever d; exp(0) = 1 at either zero, exp(-inf) = 0, and A·2^-(31+I) is exact.
 -- There is no law that exp rises with d: `exp-not-monotone`, below, is a place where it falls. Assumes nothing.
 use mathlib.Core.Path.{_≡_, refl, sym, ap, _∙_, subst}
-use mathlib.Core.Bool.{Bool, true, false, cond, _&&_}
-use mathlib.Core.List.{List, [], _∷_}
+use mathlib.Core.Bool.{Bool, true, false, cond}
 use Prim.Native.Nat.{ℕ, _+_, _-_, _*_, _/_, _%_, _^_, _≤_, _<_}
-use native.Mathlib.Nat.{le-trans, le-refl, le-of-eq, lt-of-le-of-lt, mul-assoc, mul-one, mul-comm, mul-le-mul-right, div-le-of-le-mul}
+use native.Mathlib.Nat.{le-trans, le-of-eq, lt-of-le-of-lt, mul-assoc, mul-one, mul-comm, mul-le-mul-right, div-le-of-le-mul}
 use native.Mathlib.Omega.{arith}
 use borrow.Author.Tests.{ltb-false}
-use lib.Dec.{T, ltb, ltb→lt, lit<}
+use lib.Dec.{T, ltb, lit<}
 use lib.IntN.{pos}
 use lib.Pow.{pow-pos, pow-mono, pow-lt, pow-add}
-use lib.ListN.{length}
 use lib.Ieee.{Float, nan, inf, fin, up, down, binary64, round, size, le, lt, eq, neg, mul, ofBits, fits}
-use lib.Ieee.Fits.{and-l, and-r, round-fits}
+use lib.Ieee.Fits.{round-fits}
 use lib.Ieee.Exact.{HasValue, round-exact}
 use lib.Ieee.Scale.{finite}
 use Rattle.order.specs.Float.{nought, one, minusInfinity, nonneg, unit}
@@ -20,28 +18,9 @@ use Rattle.order.proofs.Unit.{round-unit}
 use Rattle.order.proofs.Fraction.{unit-nonneg, unit-finite, unit-le-one}
 use Rattle.kernels.specs.Binary.{dyadic}
 use Rattle.kernels.specs.Roots.{constants}
-use Rattle.kernels.specs.Exp.{step, steps, power, log2e, expArg, expEnd, floor30, expFrom, expOf}
-use Rattle.kernels.proofs.Steps.{step-le}
+use Rattle.kernels.specs.Exp.{steps, power, log2e, expArg, expEnd, floor30, expFrom, expOf}
+use Rattle.kernels.proofs.Steps.{power-le}
 use Rattle.kernels.proofs.ExpParts.{arg-nonneg, or-false}
-
--- ---- A is at most 2^31
-allBelow : List ℕ → Bool
-allBelow [] = true
-allBelow (c ∷ cs) = ltb c (2 ^ 31) && allBelow cs
-
-constants-below : T (allBelow constants)
-unfolding constants allBelow
-constants-below = tt
-
-steps-le : (cs : List ℕ) (g a : ℕ) → T (allBelow cs) → a ≤ 2 ^ 31 → steps cs g a ≤ 2 ^ 31
-unfolding steps allBelow
-steps-le [] g a t h = h
-steps-le (c ∷ cs) g a t h =
-    steps-le cs g (step c (g / 2 ^ length cs % 2) a) (and-r (ltb c (2 ^ 31)) (allBelow cs) t)
-    (step-le a c h (ltb→lt c (2 ^ 31) (and-l (ltb c (2 ^ 31)) (allBelow cs) t)) (g / 2 ^ length cs % 2))
-
-pub power-le : (g : ℕ) → power g ≤ 2 ^ 31
-power-le g = steps-le constants g (2 ^ 31) constants-below (le-refl (2 ^ 31))
 
 -- ---- from +0.0 to 1.0
 from-unit : (Y : ℕ) → T (unit (expFrom Y))

@@ -11,4 +11,3 @@ pub mod RootsLaws
 pub mod ExpLaws
 pub mod LnLaws
 pub mod Ln1mLaws
-pub mod Examples

@@ -1,12 +1,13 @@
--- The steps of exp: a step with no branch, steps taken one list after another, and the bound 2^31 that no step passes. Assumes nothing.
+-- The steps of exp: a step with no branch, steps taken one list after another or entry by entry, and the bound 2^31 that none passes. Assumes nothing.
 use mathlib.Core.Path.{_≡_, refl, sym, ap, _∙_}
-use mathlib.Core.Bool.{Bool, true, false, cond}
+use mathlib.Core.Bool.{Bool, true, false, cond, _&&_}
 use mathlib.Core.List.{List, [], _∷_, _++_}
 use Prim.Native.Nat.{ℕ, zero, suc, _+_, _-_, _*_, _/_, _%_, _^_, _≤_, _<_}
-use native.Mathlib.Nat.{le-of-lt, lt-of-le-of-lt, mul-le-mul, mul-one, mul-zero, mul-div-cancel, div-le-of-le-mul, add-comm, add-zero, not-suc-le-zero, le-of-suc-le-suc}
+use native.Mathlib.Nat.{le-refl, sub-self, le-of-lt, lt-of-le-of-lt, mul-le-mul, mul-one, mul-zero, mul-div-cancel, div-le-of-le-mul, add-comm, add-zero, not-suc-le-zero, le-of-suc-le-suc}
 use native.Mathlib.Omega.{arith}
-use lib.Dec.{eqb}
-use lib.ListN.{length, take, drop, length-append}
+use lib.Dec.{T, eqb, ltb, ltb→lt}
+use lib.Ieee.Fits.{and-l, and-r}
+use lib.ListN.{length, getD, take, drop, length-append}
 use lib.Pow.{pow-pos, shr-shr}
 use Rattle.kernels.specs.Roots.{constants}
 use Rattle.kernels.specs.Exp.{step, steps, power}
@@ -43,7 +44,26 @@ module _ (a c : ℕ) where
         go true = div-le-of-le-mul (2 ^ 31) (mul-le-mul below (le-of-lt small))
         go false = below
 
--- the steps over two lists are those over the first, with the bits above the second's, and then those over the second
+-- ---- no step passes 2^31
+allBelow : List ℕ → Bool
+allBelow [] = true
+allBelow (c ∷ cs) = ltb c (2 ^ 31) && allBelow cs
+
+constants-below : T (allBelow constants)
+unfolding constants allBelow
+constants-below = tt
+
+steps-le : (cs : List ℕ) (g a : ℕ) → T (allBelow cs) → a ≤ 2 ^ 31 → steps cs g a ≤ 2 ^ 31
+unfolding steps allBelow
+steps-le [] g a t h = h
+steps-le (c ∷ cs) g a t h =
+    steps-le cs g (step c (g / 2 ^ length cs % 2) a) (and-r (ltb c (2 ^ 31)) (allBelow cs) t)
+    (step-le a c h (ltb→lt c (2 ^ 31) (and-l (ltb c (2 ^ 31)) (allBelow cs) t)) (g / 2 ^ length cs % 2))
+
+pub power-le : (g : ℕ) → power g ≤ 2 ^ 31
+power-le g = steps-le constants g (2 ^ 31) constants-below (le-refl (2 ^ 31))
+
+-- ---- the steps over two lists are those over the first, with the bits above the second's, and then those over the second
 pub steps-append : (xs ys : List ℕ) (g a : ℕ) → steps (xs ++ ys) g a ≡ steps ys g (steps xs (g / 2 ^ length ys) a)
 unfolding steps
 steps-append [] ys g a = refl
@@ -52,23 +72,62 @@ steps-append (x ∷ xs) ys g a =
     ap (λ (n : ℕ). g / 2 ^ n) (length-append xs ys ∙ add-comm (length xs) (length ys)) ∙ sym (shr-shr g (length ys) (length xs)) in
     ap (λ (n : ℕ). steps (xs ++ ys) g (step x (n % 2) a)) e ∙ steps-append xs ys g (step x (g / 2 ^ length ys / 2 ^ length xs % 2) a)
 
--- five constants from place n on
-abbrev pub five : ℕ → List ℕ
-five n = take 5 (drop n constants)
+-- ---- steps over a part of a list, one entry after the other
+-- the entries from place i up to `to`
+abbrev pub part : List ℕ → ℕ → ℕ → List ℕ
+part cs i to = take (to - i) (drop i cs)
 
--- the thirty steps, five at a time
-pub by-fives : (g a5 a10 a15 a20 a25 r : ℕ) → a5 ≡ steps (five 0) (g / 2 ^ 25) (2 ^ 31) → a10 ≡ steps (five 5) (g / 2 ^ 20) a5 → a15 ≡ steps (five 10) (g / 2 ^ 15) a10
-    → a20 ≡ steps (five 15) (g / 2 ^ 10) a15 → a25 ≡ steps (five 20) (g / 2 ^ 5) a20 → r ≡ steps (five 25) g a25 → r ≡ power g
+split : (cs : List ℕ) (i n : ℕ) → i + suc n ≤ length cs → take (suc n) (drop i cs) ≡ getD cs i 0 ∷ take n (drop (suc i) cs)
+split [] i n h = absurd (never i n h)
+  where
+    never : (i n : ℕ) → i + suc n ≤ 0 → ⊥
+    never i n h = omega arith
+split (c ∷ cs) zero n h = refl
+split (c ∷ cs) (suc i) n h = split cs i n (less i n (length cs) h)
+  where
+    less : (i n l : ℕ) → suc i + suc n ≤ suc l → i + suc n ≤ l
+    less i n l h = omega arith
+
+part-length : (cs : List ℕ) (i n : ℕ) → i + n ≤ length cs → length (take n (drop i cs)) ≡ n
+part-length cs i zero h = refl
+part-length cs i (suc n) h = ap length (split cs i n h) ∙ ap suc (part-length cs (suc i) n (omega arith))
+
+-- the first of the steps, and those that are left
+pub first-step : (cs : List ℕ) (i to g r : ℕ) → i < to → to ≤ length cs
+    → steps (part cs i to) g r ≡ steps (part cs (i + 1) to) g (step (getD cs i 0) (g / 2 ^ (to - 1 - i) % 2) r)
+unfolding steps
+first-step cs i to g r h k =
+    let n = to - 1 - i in
+    let more : to - i ≡ suc n = omega arith in
+    let left : n ≡ to - (i + 1) = omega arith in
+    let next : suc i ≡ i + 1 = omega arith in
+    let c = getD cs i 0 in
+    ap (λ (m : ℕ). steps (take m (drop i cs)) g r) more
+    ∙ ap (λ (l : List ℕ). steps l g r) (split cs i n (omega arith))
+    ∙ ap (λ (m : ℕ). steps (take n (drop (suc i) cs)) g (step c (g / 2 ^ m % 2) r)) (part-length cs (suc i) n (omega arith))
+    ∙ ap (λ (j : ℕ). steps (take n (drop j cs)) g (step c (g / 2 ^ n % 2) r)) next
+    ∙ ap (λ (m : ℕ). steps (take m (drop (i + 1) cs)) g (step c (g / 2 ^ n % 2) r)) left
+
+pub none-left : (cs : List ℕ) (to g r : ℕ) → steps (part cs to to) g r ≡ r
+unfolding steps
+none-left cs to g r = ap (λ (m : ℕ). steps (take m (drop to cs)) g r) (sub-self to)
+
+-- ---- the thirty constants
+entry-lt : (cs : List ℕ) (i : ℕ) → T (allBelow cs) → i < length cs → getD cs i 0 < 2 ^ 31
+unfolding allBelow
+entry-lt [] i t h = absurd (not-suc-le-zero h)
+entry-lt (c ∷ cs) zero t h = ltb→lt c (2 ^ 31) (and-l (ltb c (2 ^ 31)) (allBelow cs) t)
+entry-lt (c ∷ cs) (suc i) t h = entry-lt cs i (and-r (ltb c (2 ^ 31)) (allBelow cs) t) (le-of-suc-le-suc h)
+
+pub constant-lt : (i : ℕ) → i < 30 → getD constants i 0 < 2 ^ 31
 unfolding constants
-by-fives g a5 a10 a15 a20 a25 r h5 h10 h15 h20 h25 h30 =
-    h30
-    ∙ ap (steps (five 25) g) h25
-    ∙ sym (steps-append (five 20) (drop 25 constants) g a20)
-    ∙ ap (steps (drop 20 constants) g) h20
-    ∙ sym (steps-append (five 15) (drop 20 constants) g a15)
-    ∙ ap (steps (drop 15 constants) g) h15
-    ∙ sym (steps-append (five 10) (drop 15 constants) g a10)
-    ∙ ap (steps (drop 10 constants) g) h10
-    ∙ sym (steps-append (five 5) (drop 10 constants) g a5)
-    ∙ ap (steps (drop 5 constants) g) h5
-    ∙ sym (steps-append (five 0) (drop 5 constants) g (2 ^ 31))
+constant-lt i h = entry-lt constants i constants-below h
+
+pub first-seven-le : (g : ℕ) → steps (take 7 constants) g (2 ^ 31) ≤ 2 ^ 31
+unfolding constants allBelow
+first-seven-le g = steps-le (take 7 constants) g (2 ^ 31) tt (le-refl (2 ^ 31))
+
+-- the first seven steps, and then the others
+pub by-head : (g a r : ℕ) → a ≡ steps (take 7 constants) (g / 2 ^ 23) (2 ^ 31) → r ≡ steps (part constants 7 30) g a → r ≡ power g
+unfolding constants
+by-head g a r h k = k ∙ ap (steps (part constants 7 30) g) h ∙ sym (steps-append (take 7 constants) (drop 7 constants) g (2 ^ 31))

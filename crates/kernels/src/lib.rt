@@ -1,19 +1,23 @@
 // The kernels exp, ln and ln(1 - exp(p)): each is an exact definition of specs/, bit for bit. The calls `exp`, `ln` and `ln_1m_exp` refuse
 // what is outside their domain; `exp_of`, `ln_of` and `ln_1m_of`, for the crates above, give the bare value, defined for every argument.
+mod heads;
+
 use answer::Answer;
 use answer::Refusal;
 use answer::done;
 use answer::refused;
+use heads::head;
 use order::minus_infinity;
 ghost use mathlib.Core.Path.{_≡_};
-ghost use mathlib.Core.List.{[], _∷_};
-ghost use Prim.Native.Nat.{_^_, _%_, _≤_, _<_};
+ghost use Prim.Native.Nat.{_-_, _^_, _%_, _≤_, _<_};
+ghost use lib.ListN.{take, drop};
 ghost use lib.IntN.{pos, _-ℤ_};
 ghost use lib.Dec.{T};
 ghost use lib.Ieee.{binary64, ofBits, size, inFloat};
 ghost use Rattle.order.specs.Float.{one};
 ghost use Rattle.kernels.specs.Binary.{unitsOf, dyadic};
 ghost use Rattle.kernels.specs.Pattern.{fieldOf, digitsOf, placeOf};
+ghost use Rattle.kernels.specs.Roots.{constants};
 ghost use Rattle.kernels.specs.Exp as Exp;
 ghost use Rattle.kernels.specs.Exp.{step, steps, expOf};
 ghost use Rattle.kernels.specs.Ln.{logBits, joined, lnFixed, lnOf};
@@ -95,29 +99,27 @@ fn stepped(a: u64, c: u64, g: u64) -> u64
     (a * (c * bit + 0x8000_0000 * (1 - bit))) >> 31
 }
 
-// Five steps of exp, for the five lowest bits of g, highest first.
-fn five_steps(a: u64, g: u64, c1: u64, c2: u64, c3: u64, c4: u64, c5: u64) -> u64
-    requires { ⌜ (a ≤ 2 ^ 31) × (c1 < 2 ^ 31) × (c2 < 2 ^ 31) × (c3 < 2 ^ 31) × (c4 < 2 ^ 31) × (c5 < 2 ^ 31) ⌝ }
-    ensures { λ r. ⌜ (r ≡ steps (c1 ∷ c2 ∷ c3 ∷ c4 ∷ c5 ∷ []) g a) × (r ≤ 2 ^ 31) ⌝ }
+// The steps of exp over the constants from place `from` up to `to`, for as many of the lowest bits of g, highest first. Where both places
+// are known, as in all calls, the loop is compiled to straight code and the constants stand in it.
+pub(crate) fn steps_over(a: u64, g: u64, from: usize, to: usize) -> u64
+    requires { ⌜ (a ≤ 2 ^ 31) × (from ≤ to) × (to ≤ 30) ⌝ }
+    ensures { λ r. ⌜ (r ≡ steps (take (to - from) (drop from constants)) g a) × (r ≤ 2 ^ 31) ⌝ }
 {
-    let a1 = stepped(a, c1, g >> 4);
-    let a2 = stepped(a1, c2, g >> 3);
-    let a3 = stepped(a2, c3, g >> 2);
-    let a4 = stepped(a3, c4, g >> 1);
-    stepped(a4, c5, g)
+    let c = ROOTS;
+    let mut r = a;
+    let mut i = from;
+    while i < to {
+        r = stepped(r, c[i], g >> (to - 1 - i));
+        i += 1;
+    }
+    r
 }
 
-// 2^31 times 2^-(g / 2^30), for the thirty lowest bits of g.
+// 2^31 times 2^-(g / 2^30), for the thirty lowest bits of g: seven steps looked up, then the others.
 fn power(g: u64) -> u64
     ensures { λ r. ⌜ (r ≡ Exp.power g) × (r ≤ 2 ^ 31) ⌝ }
 {
-    let c = ROOTS;
-    let a5 = five_steps(0x8000_0000, g >> 25, c[0], c[1], c[2], c[3], c[4]);
-    let a10 = five_steps(a5, g >> 20, c[5], c[6], c[7], c[8], c[9]);
-    let a15 = five_steps(a10, g >> 15, c[10], c[11], c[12], c[13], c[14]);
-    let a20 = five_steps(a15, g >> 10, c[15], c[16], c[17], c[18], c[19]);
-    let a25 = five_steps(a20, g >> 5, c[20], c[21], c[22], c[23], c[24]);
-    five_steps(a25, g, c[25], c[26], c[27], c[28], c[29])
+    steps_over(head(g >> 23), g, 7, 30)
 }
 
 // a·2^-k, exactly.

@@ -1,9 +1,7 @@
-pub mod Entries
-pub mod Laid
+pub mod Opening
 pub mod Terms
 pub mod Strides
 pub mod Steps
 pub mod Last
 pub mod Outcome
 pub mod Lid
-pub mod Examples

@@ -19,8 +19,8 @@ use Rattle.model.specs.Lent as Lent
 use Rattle.model.specs.Lent.{Lent, S, M}
 use Rattle.model.specs.Model.{Model, modelOf, sampleAt}
 use Rattle.model.specs.Accepted.{Accepted}
+use Rattle.model.proofs.Entries.{good-low, end-low}
 use Rattle.likelihood.specs.Walk.{alpha, forwardValue, beta, backwardValue}
-use Rattle.likelihood.proofs.Entries.{good-low, end-low}
 
 -- 2 ^ 10: entries of tables are at most 1, and a density's logarithm would be at most 700
 abbrev pub most : Float

@@ -1,39 +1,27 @@
 -- The rows in memory follow the recurrences: the first row, each row after it, and all of them at the end. Assumes nothing.
-use Prim.Native.Nat.{ℕ, zero, suc, _+_, _*_, _<_, _≤_}
-use native.Mathlib.Nat.{lt-suc-self}
+use Prim.Native.Nat.{ℕ, suc, _+_, _*_, _<_, _≤_}
 use native.Mathlib.Numerals.{add-one}
 use native.Mathlib.Omega.{arith}
-use mathlib.Core.Path.{_≡_, refl, ap, ap₂, _∙_}
+use mathlib.Core.Path.{_≡_, sym, ap, ap₂, _∙_}
 use mathlib.Core.Bool.{Bool, true, false}
 use mathlib.Core.List.{List}
 use lib.ListN.{length, take, drop}
 use lib.Ieee.{Float}
 use Rattle.order.specs.Float.{_⊕_, at, minusInfinity}
 use Rattle.rows.specs.Lists.{tab, flat, over}
-use Rattle.rows.proofs.Places.{next-at, row-room}
-use Rattle.rows.proofs.Over.{length-tab, getD-tab, over-settled}
-use Rattle.rows.proofs.Rows.{length-flat, over-row, row-back}
+use Rattle.rows.proofs.Places.{next-at}
+use Rattle.rows.proofs.Over.{length-tab, getD-tab, tab-same, tab-own}
+use Rattle.rows.proofs.Rows.{over-row, row-back, rows-settled}
 use Rattle.probs.proofs.Loops.{lnSum-same}
 use Rattle.model.specs.Lent.{Lent, S, T}
 use Rattle.model.specs.Model.{modelOf, transitionOf}
+use Rattle.model.specs.Accepted.{Accepted}
+use Rattle.model.proofs.FirstRow.{first-row-is}
 use Rattle.likelihood.specs.Walk.{alpha, beta}
-use Rattle.likelihood.specs.Inner.{firstCell, Begun, cellOf, Stepped, walked, timeOf, Filled}
-
--- a list by rule, where two rules agree
-pub tab-same : {A : Type 0} (n : ℕ) (f g : ℕ → A) → ((k : ℕ) → k < n → f k ≡ g k) → tab n f ≡ tab n g
-unfolding tab
-tab-same zero f g h = refl
-tab-same (suc n) f g h = rw (tab-same n f g (λ k l. h k (omega arith)), h n (lt-suc-self n))
+use Rattle.likelihood.specs.Inner.{rowZero, Begun, cellOf, Stepped, walked, timeOf, Filled}
 
 module _ (l : Lent) where
-  -- ---- one cell
-  first-is : (back : Bool) (emissions : List Float) → emissions ≡ tab (S l) (modelOf l .emission 0) →
-      (j : ℕ) → j < S l → firstCell back (l .initial) (l .end) emissions j ≡ walked back (modelOf l) (T l) 0 j
-  unfolding alpha beta
-  first-is false emissions h j s = ap (λ (e : Float). at (l .initial) j ⊕ e) (rw h (getD-tab (S l) _ j minusInfinity s))
-  first-is true emissions h j s = refl
-
-  -- row i is the one before
+  -- ---- one cell, where row i is the one before
   next-is : (back : Bool) (i : ℕ) (emissions row : List Float) → emissions ≡ tab (S l) (modelOf l .emission (timeOf back (T l) i)) →
       row ≡ tab (S l) (walked back (modelOf l) (T l) i) →
       (j : ℕ) → j < S l → cellOf back (S l) (l .transition) emissions row j ≡ walked back (modelOf l) (T l) (i + 1) j
@@ -49,6 +37,12 @@ module _ (l : Lent) where
       ap₂ (λ (x y : Float). (x ⊕ transitionOf (S l) (l .transition) j k) ⊕ y) (getD-tab (S l) _ k minusInfinity t) (rw h (getD-tab (S l) _ k minusInfinity t))))
 
   -- ---- the rows
+  first-is : (back : Bool) → Accepted l → (emissions : List Float) → emissions ≡ tab (S l) (modelOf l .emission 0) →
+      rowZero back (l .initial) (l .end) emissions ≡ tab (S l) (walked back (modelOf l) (T l) 0)
+  unfolding alpha beta
+  first-is false a emissions h = first-row-is l emissions (a .initialLength) h
+  first-is true a emissions h = sym (tab-own (l .end) minusInfinity) ∙ ap (λ (n : ℕ). tab n (at (l .end))) (a .endLength)
+
   module _ (back : Bool) where
     abbrev pub rowAt : ℕ → List Float
     rowAt i = tab (S l) (walked back (modelOf l) (T l) i)
@@ -57,10 +51,10 @@ module _ (l : Lent) where
     row-long i = length-tab (S l) (walked back (modelOf l) (T l) i)
 
     -- o is what was lent
-    pub first-laid : (emissions o cur : List Float) → emissions ≡ tab (S l) (modelOf l .emission 0) →
-        Begun back (S l) (l .initial) (l .end) emissions o cur → cur ≡ over 0 (flat 1 rowAt) o
+    pub first-laid : Accepted l → (emissions o cur : List Float) → emissions ≡ tab (S l) (modelOf l .emission 0) →
+        Begun back (l .initial) (l .end) emissions o cur → cur ≡ over 0 (flat 1 rowAt) o
     unfolding flat
-    first-laid emissions o cur h e = e ∙ ap (λ (p : List Float). over 0 p o) (tab-same (S l) _ _ (first-is back emissions h))
+    first-laid a emissions o cur h e = e ∙ ap (λ (p : List Float). over 0 p o) (first-is back a emissions h)
 
     -- rows 0 to i stand, row i at p, and the next row is laid after them
     pub next-laid : (i p : ℕ) (emissions o cur new : List Float) → emissions ≡ tab (S l) (modelOf l .emission (timeOf back (T l) i)) →
@@ -75,10 +69,7 @@ module _ (l : Lent) where
     pub all-laid : (i : ℕ) (o mid cur : List Float) →
         mid ≡ over 0 (flat 1 rowAt) o → cur ≡ over 0 (flat (i + 1) rowAt) mid → i + 1 ≡ T l → Filled back l o cur
     all-laid i o mid cur d e n =
-        let r = row-room 0 (i + 1) (S l) (omega arith) in
-        let shorter : length (flat 1 rowAt) ≤ length (flat (i + 1) rowAt) =
-        rw (length-flat 1 rowAt (S l) row-long, length-flat (i + 1) rowAt (S l) row-long) (omega (arith, r)) in
-        over-settled _ _ o mid cur e d shorter ∙ ap (λ (k : ℕ). over 0 (flat k rowAt) o) n
+        rows-settled (i + 1) (S l) rowAt o mid cur row-long (omega arith) d e ∙ ap (λ (k : ℕ). over 0 (flat k rowAt) o) n
 
 -- the sample of a row that is to come is one of the n
 pub time-within : (back : Bool) (n i : ℕ) → i + 1 < n → timeOf back n i < n

@@ -9,7 +9,7 @@ use Rattle.rows.specs.Lists.{tab, over}
 use Rattle.rows.proofs.Over.{length-tab, getD-tab}
 use Rattle.probs.specs.Sum.{lnSum}
 use Rattle.probs.proofs.Loops.{lnSum-same}
-use Rattle.likelihood.proofs.Laid.{front}
+use Rattle.rows.proofs.Laid.{front}
 
 module _ (n : ℕ) (f : ℕ → Float) where
   sum-tab : lnSum (length (tab n f)) (at (tab n f)) ≡ lnSum n f

@@ -4,14 +4,15 @@ use Prim.Native.Nat.{ℕ, _+_, _*_, _-_, _<_, _≤_}
 use mathlib.Core.Path.{_≡_}
 use mathlib.Core.Bool.{Bool, true, false}
 use mathlib.Core.List.{List}
-use lib.ListN.{length, take, drop}
-use lib.Ieee.{Float}
+use lib.ListN.{length, getD, take, drop}
+use lib.Ieee.{Float, nan}
 use Rattle.order.specs.Float.{_⊕_, at}
 use Rattle.rows.specs.Lists.{tab, table, over}
-use Rattle.probs.specs.Sum.{lnSum}
+use Rattle.probs.specs.Sum.{closedSum, lnSum}
 use Rattle.model.specs.Lent.{Lent, S, T}
 use Rattle.model.specs.Model.{Model, modelOf, transitionOf}
 use Rattle.model.specs.Accepted.{Accepted}
+use Rattle.model.specs.Row.{firstRow, Beginning}
 use Rattle.likelihood.specs.declared.Stride.{Stride}
 use Rattle.likelihood.specs.Walk.{alpha, forwardValue, beta, backwardValue}
 
@@ -43,11 +44,6 @@ abbrev pub starting : List Float → List Float → List Float → ℕ → Float
 starting row initial emissions k = (at row k ⊕ at initial k) ⊕ at emissions k
 
 -- ---- one cell
--- state j of the first row: initial + emission, or the end table
-abbrev pub firstCell : Bool → List Float → List Float → List Float → ℕ → Float
-firstCell false initial end emissions j = at initial j ⊕ at emissions j
-firstCell true initial end emissions j = at end j
-
 -- state j of the row after `row`, where `emissions` are those of the row's sample, state by state
 unfoldable pub cellOf : Bool → ℕ → List Float → List Float → List Float → ℕ → Float
 cellOf false S transition emissions row j = lnSum S (λ (k : ℕ). (at row k ⊕ transitionOf S transition k j) ⊕ at emissions j)
@@ -62,22 +58,33 @@ pub record Ready (S : ℕ) (row transition emissions : List Float) (j : ℕ) : T
   pub state : j < S
 
 -- ---- one row
--- an emission table of S states by M symbols has an emission of symbol x for each state
-pub record Emits (S M : ℕ) (emission : List Float) (x : ℕ) : Type 0 where
-  pub fewStates : S ≤ 64
-  pub emissionLength : length emission ≡ S * M
-  pub symbol : x < M
+-- the first row: "First row as above", or "row 0 the end table"
+abbrev pub rowZero : Bool → List Float → List Float → List Float → List Float
+rowZero false initial end emissions = firstRow initial emissions
+rowZero true initial end emissions = end
 
--- the first row can be worked out, and has room in the values
-pub record Starting (S : ℕ) (values initial end emissions : List Float) : Type 0 where
-  pub room : S ≤ length values
-  pub initialLength : length initial ≡ S
-  pub endLength : length end ≡ S
-  pub emissionsLength : length emissions ≡ S
+-- it can be worked out, and has room in the values
+pub record Starting (initial end emissions values : List Float) : Type 0 where
+  pub forward : Beginning initial emissions values
+  pub backward : length end ≤ length values
 
 -- it is laid over o
-abbrev pub Begun : Bool → ℕ → List Float → List Float → List Float → List Float → List Float → Type 0
-Begun back S initial end emissions o e = e ≡ over 0 (tab S (firstCell back initial end emissions)) o
+abbrev pub Begun : Bool → List Float → List Float → List Float → List Float → List Float → Type 0
+Begun back initial end emissions o e = e ≡ over 0 (rowZero back initial end emissions) o
+
+-- the row after `row` can be worked out
+pub record Following (S : ℕ) (row transition emissions : List Float) : Type 0 where
+  pub fewStates : S ≤ 64
+  pub rowLength : length row ≡ S
+  pub transitionLength : length transition ≡ S * S
+  pub emissionsLength : length emissions ≡ S
+
+-- of the S sums f 0, f 1, .. the first n stand, before their logarithms are taken, as greatest terms and sums over the others
+pub record Opened (S : ℕ) (values sums : List Float) (f : ℕ → Float) (n : ℕ) : Type 0 where
+  pub within : n ≤ S
+  pub valuesLength : length values ≡ 64
+  pub sumsLength : length sums ≡ 64
+  pub closes : (j : ℕ) → j < n → closedSum (record { value = getD values j nan; sum = getD sums j nan }) ≡ f j
 
 -- the row after the one at place i can be worked out, and has room in the values
 pub record Continuing (S : ℕ) (values : List Float) (i : ℕ) (transition emissions : List Float) : Type 0 where

@@ -1,7 +1,8 @@
 // The likelihood of the samples under a model, by the forward and the backward walk (Rabiner's forward-backward procedure).
 // Both walks go down the rows of the lent values: row i is alpha at sample i or, going back, beta at sample T-1-i. A flag says which way,
-// and only a cell, a row's sample and the last sum look at it. A sum has a term for each state, 64 at most, so they are laid out in a
-// local array for `ln_sum`, as the emissions of a row's sample are: a walk reads them from there, whatever an emission is made of.
+// and only the first row, a cell, a row's sample and the last sum look at it. A sum has a term for each state, 64 at most, so they are
+// laid out in a local array, as the emissions of a row's sample are: a walk reads them from there, whatever an emission is made of. The
+// logarithms of a row are taken at its end, one right after the other.
 use answer::Answer;
 use answer::done;
 use answer::is_done;
@@ -10,17 +11,22 @@ use model::check_entries;
 use model::check_output;
 use model::check_sizes;
 use model::entry;
+use model::row::first_row;
+use model::row::lay_emissions;
 use order::minus_infinity;
+use probs::sum::Open;
+use probs::sum::close_sum;
 use probs::sum::ln_sum;
+use probs::sum::open_sum;
 ghost use mathlib.Core.Path.{_≡_};
 ghost use Prim.Native.Nat.{_+_, _*_, _<_, _≤_};
-ghost use lib.ListN.{length, take};
-ghost use Rattle.rows.specs.Lists.{tab};
-ghost use Rattle.probs.specs.Sum.{lnSum};
+ghost use lib.ListN.{length};
+ghost use Rattle.rows.specs.Lists.{over};
+ghost use Rattle.probs.specs.Sum.{closedSum, lnSum};
 ghost use Rattle.model.specs.Lent.{lent};
-ghost use Rattle.model.specs.Model.{emissionOf, sampleAt};
+ghost use Rattle.model.specs.Model.{sampleAt};
 ghost use Rattle.likelihood.specs.Inner as Inner;
-ghost use Rattle.likelihood.specs.Inner.{Readable, term, ending, Emits, firstCell, Starting, Begun, Ready, cellOf};
+ghost use Rattle.likelihood.specs.Inner.{Readable, term, ending, Starting, Begun, Ready, cellOf, Following, Opened};
 ghost use Rattle.likelihood.specs.Inner.{Continuing, Stepped, timeOf, Walkable, Filled, Closing, lastSum, Valued};
 ghost use Rattle.likelihood.specs.Call.{checked, Forward, Backward};
 
@@ -35,10 +41,10 @@ fn strided(table: &[f64], stride: Stride, k: usize) -> f64
     entry(table, k * stride.1 + stride.0)
 }
 
-// The sum over the states k of (row k + arc k) + emission k.
-fn row_sum(row: &[f64], arcs: &[f64], arc: Stride, emissions: &[f64], emission: Stride) -> f64
+// The sum over the states k of (row k + arc k) + emission k, before its logarithm is taken.
+fn row_sum(row: &[f64], arcs: &[f64], arc: Stride, emissions: &[f64], emission: Stride) -> Open
     requires { ⌜ Readable (now row) (now arcs) arc (now emissions) emission ⌝ }
-    ensures { λ r. ⌜ r ≡ lnSum (length (now (row .entry)))
+    ensures { λ r. ⌜ closedSum r ≡ lnSum (length (now (row .entry)))
         (term (now (row .entry)) (now (arcs .entry)) arc (now (emissions .entry)) emission) ⌝ }
 {
     let n = row.len();
@@ -48,7 +54,7 @@ fn row_sum(row: &[f64], arcs: &[f64], arc: Stride, emissions: &[f64], emission: 
         terms[k] = (entry(row, k) + strided(arcs, arc, k)) + strided(emissions, emission, k);
         k += 1;
     }
-    ln_sum(&terms[..n])
+    open_sum(&terms[..n])
 }
 
 // The sum over the states k of row k + end k.
@@ -66,52 +72,32 @@ fn end_sum(row: &[f64], end: &[f64]) -> f64
     ln_sum(&terms[..n])
 }
 
-// The emissions of symbol x, state by state.
-fn emissions_of(emission: &[f64], states: usize, symbols: usize, x: usize) -> [f64; 64]
-    requires { ⌜ Emits states symbols (now emission) x ⌝ }
-    ensures { λ r. ⌜ take states r ≡ tab states (emissionOf symbols (now (emission .entry)) x) ⌝ }
+// The first row, going back: the end table.
+fn end_row(end: &[f64], values: &mut [f64])
+    requires { ⌜ length (now end) ≤ length (now values) ⌝ }
+    ensures { λ _. ⌜ now (values .exit) ≡ over 0 (now (end .entry)) (now (values .entry)) ⌝ }
 {
-    let mut emissions = [0.0; 64];
     let mut j = 0;
-    while j < states {
-        emissions[j] = entry(emission, j * symbols + x);
+    while j < end.len() {
+        values[j] = entry(end, j);
         j += 1;
     }
-    emissions
-}
-
-// State j of the first row.
-fn first_cell(back: bool, initial: &[f64], end: &[f64], emissions: &[f64], j: usize) -> f64
-    requires { ⌜ (j < length (now initial)) × (j < length (now end)) × (j < length (now emissions)) ⌝ }
-    ensures { λ r. ⌜ r ≡ firstCell back (now (initial .entry)) (now (end .entry)) (now (emissions .entry)) j ⌝ }
-{
-    if back {
-        return entry(end, j);
-    }
-    entry(initial, j) + entry(emissions, j)
 }
 
 // The first row.
-fn first_row(
-    back: bool,
-    values: &mut [f64],
-    initial: &[f64],
-    end: &[f64],
-    emissions: &[f64],
-    states: usize,
-)
-    requires { ⌜ Starting states (now values) (now initial) (now end) (now emissions) ⌝ }
-    ensures { λ _. ⌜ Begun back states (now (initial .entry)) (now (end .entry)) (now (emissions .entry))
+fn begin(back: bool, initial: &[f64], end: &[f64], emissions: &[f64], values: &mut [f64])
+    requires { ⌜ Starting (now initial) (now end) (now emissions) (now values) ⌝ }
+    ensures { λ _. ⌜ Begun back (now (initial .entry)) (now (end .entry)) (now (emissions .entry))
         (now (values .entry)) (now (values .exit)) ⌝ }
 {
-    let mut j = 0;
-    while j < states {
-        values[j] = first_cell(back, initial, end, emissions, j);
-        j += 1;
+    if back {
+        end_row(end, values);
+        return;
     }
+    first_row(initial, emissions, values);
 }
 
-// State j of the row after `row`.
+// State j of the row after `row`, before its logarithm is taken.
 fn cell(
     back: bool,
     row: &[f64],
@@ -119,9 +105,9 @@ fn cell(
     emissions: &[f64],
     states: usize,
     j: usize,
-) -> f64
+) -> Open
     requires { ⌜ Ready states (now row) (now transition) (now emissions) j ⌝ }
-    ensures { λ r. ⌜ r ≡ cellOf back states (now (transition .entry)) (now (emissions .entry)) (now (row .entry)) j ⌝ }
+    ensures { λ r. ⌜ closedSum r ≡ cellOf back states (now (transition .entry)) (now (emissions .entry)) (now (row .entry)) j ⌝ }
 {
     if back {
         return row_sum(
@@ -133,6 +119,36 @@ fn cell(
         );
     }
     row_sum(row, transition, Stride(j, states), emissions, Stride(j, 0))
+}
+
+// The sums of a row before their logarithms are taken, state by state: the greatest term of each, and the sum over the others.
+struct OpenRow {
+    values: [f64; 64],
+    sums: [f64; 64],
+}
+
+// The row after `row`, before its logarithms are taken.
+fn open_row(
+    back: bool,
+    row: &[f64],
+    transition: &[f64],
+    emissions: &[f64],
+    states: usize,
+) -> OpenRow
+    requires { ⌜ Following states (now row) (now transition) (now emissions) ⌝ }
+    ensures { λ r. ⌜ Opened states (r .values) (r .sums)
+        (cellOf back states (now (transition .entry)) (now (emissions .entry)) (now (row .entry))) states ⌝ }
+{
+    let mut values = [0.0; 64];
+    let mut sums = [0.0; 64];
+    let mut j = 0;
+    while j < states {
+        let sum = cell(back, row, transition, emissions, states, j);
+        values[j] = sum.value;
+        sums[j] = sum.sum;
+        j += 1;
+    }
+    OpenRow { values, sums }
 }
 
 // The row after the one that starts at `at`.
@@ -149,9 +165,13 @@ fn next_row(
         (now (values .entry)) (now (values .exit)) ⌝ }
 {
     let base = at + states;
+    let row = open_row(back, &values[at..base], transition, emissions, states);
     let mut j = 0;
     while j < states {
-        values[base + j] = cell(back, &values[at..base], transition, emissions, states, j);
+        values[base + j] = close_sum(Open {
+            value: row.values[j],
+            sum: row.sums[j],
+        });
         j += 1;
     }
 }
@@ -184,12 +204,25 @@ fn walk(
         (now (values .entry)) (now (values .exit)) ⌝ }
 {
     let states = shape.states;
-    let emissions = emissions_of(emission, states, shape.symbols, samples[0] as usize);
-    first_row(back, values, initial, end, &emissions[..states], states);
+    let mut emissions = [0.0; 64];
+    lay_emissions(
+        emission,
+        states,
+        shape.symbols,
+        samples[0] as usize,
+        &mut emissions,
+    );
+    begin(back, initial, end, &emissions[..states], values);
     let mut i = 0;
     let mut at = 0;
     while i + 1 < samples.len() {
-        let emissions = emissions_of(emission, states, shape.symbols, sample_of(back, samples, i));
+        lay_emissions(
+            emission,
+            states,
+            shape.symbols,
+            sample_of(back, samples, i),
+            &mut emissions,
+        );
         next_row(back, values, at, transition, &emissions[..states], states);
         at += states;
         i += 1;
@@ -202,7 +235,7 @@ fn last_sum(back: bool, row: &[f64], initial: &[f64], end: &[f64], emissions: &[
     ensures { λ r. ⌜ r ≡ lastSum back (now (row .entry)) (now (initial .entry)) (now (end .entry)) (now (emissions .entry)) ⌝ }
 {
     if back {
-        return row_sum(row, initial, Stride(0, 1), emissions, Stride(0, 1));
+        return close_sum(row_sum(row, initial, Stride(0, 1), emissions, Stride(0, 1)));
     }
     end_sum(row, end)
 }
@@ -234,7 +267,14 @@ fn value_of(
         values,
     );
     let states = shape.states;
-    let emissions = emissions_of(emission, states, shape.symbols, samples[0] as usize);
+    let mut emissions = [0.0; 64];
+    lay_emissions(
+        emission,
+        states,
+        shape.symbols,
+        samples[0] as usize,
+        &mut emissions,
+    );
     let at = (samples.len() - 1) * states;
     let to = at + states;
     last_sum(back, &values[at..to], initial, end, &emissions[..states])

@@ -1,2 +1,4 @@
 pub mod Tests
 pub mod Done
+pub mod Entries
+pub mod FirstRow

@@ -1,7 +1,7 @@
 -- The code's tests, as the definitions of the checks say them, both ways. Assumes nothing.
 use Prim.Native.Nat.{ℕ, _≤_, _<_}
 use mathlib.Core.Path.{_≡_, refl, ap}
-use mathlib.Core.Bool.{Bool, true, false, not, _&&_, _||_}
+use mathlib.Core.Bool.{Bool, true, false, true≢false, not, _&&_, _||_}
 use mathlib.Core.List.{List}
 use native.Mathlib.Omega.{arith}
 use lib.Dec.{T, eqb, ltb}
@@ -10,8 +10,8 @@ use borrow.Author.Tests.{eq-eqb, ne-eqb, eqb-false, lt-ltb, le-ltb, ltb-false}
 use Rattle.rows.specs.Lists.{firstBad, someBad}
 use Rattle.rows.proofs.Scan.{all-pass, pass-all}
 
-or-false : (a b : Bool) → (a || b) ≡ false → (a ≡ false) × (b ≡ false)
-or-false true b h = absurd (let z : _≡_ {A = ℕ} 0 1 = cc in omega arith)
+pub or-false : (a b : Bool) → (a || b) ≡ false → (a ≡ false) × (b ≡ false)
+or-false true b h = absurd (true≢false h)
 or-false false b h = (refl, h)
 
 positive : (n : ℕ) → (n ≡ 0 → ⊥) → 0 < n
@@ -43,7 +43,7 @@ pub agree : (a b : ℕ) → a ≡ b → not (eqb a b) ≡ false
 agree a b e = ap not (eq-eqb a b e)
 
 -- ---- the elements of a list
-is-true : (b : Bool) → T b → b ≡ true
+pub is-true : (b : Bool) → T b → b ≡ true
 is-true true h = refl
 is-true false h = absurd h
 

@@ -3,3 +3,4 @@ pub mod Good
 pub mod Checks
 pub mod Accepted
 pub mod Model
+pub mod Row

@@ -1,4 +1,6 @@
 // The model's shape, and the checks that every call on a model makes before it reads a sample.
+pub mod row;
+
 use answer::Answer;
 use answer::Refusal;
 use answer::done;

@@ -6,4 +6,3 @@ pub mod Bounds
 pub mod Pairs
 pub mod Factors
 pub mod Overshoot
-pub mod Examples

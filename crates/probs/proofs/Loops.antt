@@ -6,9 +6,10 @@ use native.Mathlib.Omega.{arith}
 use mathlib.Core.Path.{_≡_, refl, ap, _∙_}
 use lib.Ieee.{Float}
 use Rattle.order.specs.Float.{nought, minusInfinity}
-use Rattle.probs.specs.Sum.{noPeak, raised, peak, plusExp, expSum, closed, lnSum}
+use Rattle.probs.specs.Sum.{noPeak, raised, peak, plusExp, expSum, closed, opened, closedSum, lnSum}
 use Rattle.probs.specs.Pair.{lnAdd, lnCumsum}
 use Rattle.probs.specs.declared.sum.Peak.{Peak}
+use Rattle.probs.specs.declared.sum.Open.{Open}
 
 module _ (n : ℕ) (f : ℕ → Float) where
   -- the first loop: p is the first greatest of the k terms that it has met
@@ -48,6 +49,14 @@ module _ (n : ℕ) (f : ℕ → Float) where
   pub sum-done : (p : Peak) (s r : Float) → p ≡ peak n f → s ≡ expSum p n f → r ≡ closed p s → r ≡ lnSum n f
   unfolding lnSum
   sum-done p s r d e g = rw (g, e, d)
+
+  pub opened-done : (p : Peak) (s : Float) → p ≡ peak n f → s ≡ expSum p n f → record { value = p .value; sum = s } ≡ opened n f
+  unfolding opened
+  opened-done p s d e = rw (e, d)
+
+  pub closed-done : (o : Open) → o ≡ opened n f → closedSum o ≡ lnSum n f
+  unfolding opened closedSum closed lnSum
+  closed-done o e = rw e
 
 -- ---- the terms matter below n only
 pub peak-same : (n : ℕ) (f g : ℕ → Float) → ((k : ℕ) → k < n → f k ≡ g k) → peak n f ≡ peak n g

@@ -8,6 +8,7 @@ use Rattle.order.specs.Float.{_⊕_, _⊖_, nought, one, minusInfinity, isMinus
 use Rattle.kernels.specs.Exp.{expOf}
 use Rattle.kernels.specs.Ln.{lnOf}
 use Rattle.probs.specs.declared.sum.Peak.{Peak}
+use Rattle.probs.specs.declared.sum.Open.{Open}
 
 abbrev pub isPlusInfinity : Float → Bool
 isPlusInfinity x = eq x (inf false)
@@ -51,6 +52,14 @@ expSum p (suc n) f = plusExp p (expSum p n f) (f n) n
 -- "add ln(1 + sum) to p", but "empty or all minus infinity gives minus infinity; a +inf maximum gives +inf"
 unfoldable pub closed : Peak → Float → Float
 closed p s = cond (isInfinite (p .value)) (p .value) (p .value ⊕ lnOf (one ⊕ s))
+
+-- what is there before "add ln(1 + sum) to p": p, and the sum
+unfoldable pub opened : ℕ → (ℕ → Float) → Open
+opened n f = record { value = peak n f .value; sum = expSum (peak n f) n f }
+
+-- and what that comes to; the greatest one's place is no longer asked for
+unfoldable pub closedSum : Open → Float
+closedSum o = closed (record { value = o .value; place = 0 }) (o .sum)
 
 unfoldable pub lnSum : ℕ → (ℕ → Float) → Float
 lnSum n f = closed (peak n f) (expSum (peak n f) n f)

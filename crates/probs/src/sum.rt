@@ -4,7 +4,7 @@
 // The greatest has to be known before the first exp. The Rust keeps the terms in a Vec for that. Here a sum needs neither heap nor buffer:
 // a caller with many terms, as those of a state over 4,096 samples, works each out again in the second pass. A term is a few additions
 // beside an exp, and a buffer would have to be lent, checked and wiped in every call. It reads tables that do not change in between, so
-// both passes meet the same bits. A caller whose terms lie in a slice already calls ln_sum.
+// both passes meet the same bits. A caller whose terms lie in a slice already calls ln_sum, or open_sum and, later, close_sum.
 use kernels::exp_of;
 use kernels::ln_of;
 use order::is_minus_infinity;
@@ -12,12 +12,20 @@ use order::minus_infinity;
 ghost use mathlib.Core.Path.{_≡_};
 ghost use lib.ListN.{length};
 ghost use Rattle.order.specs.Float.{at};
-ghost use Rattle.probs.specs.Sum.{isPlusInfinity, isInfinite, noPeak, raised, peak, plusExp, expSum, closed, lnSum};
+ghost use Rattle.probs.specs.Sum.{isPlusInfinity, isInfinite, noPeak, raised, peak, plusExp, expSum};
+ghost use Rattle.probs.specs.Sum.{closed, opened, closedSum, lnSum};
 
 // The first greatest of the terms so far, and its place among them.
 pub struct Peak {
     pub value: f64,
     pub place: usize,
+}
+
+// A sum before its logarithm is taken: the greatest of its terms, and the sum of exp(x - p) over the others. The steps of a logarithm
+// wait for one another, so a caller with many sums takes their logarithms at the end, one right after the other, where they overlap.
+pub struct Open {
+    pub value: f64,
+    pub sum: f64,
 }
 
 // Before the first term: minus infinity, which every other number exceeds.
@@ -102,6 +110,30 @@ fn sum_others(xs: &[f64], best: Peak) -> f64
         k += 1;
     }
     s
+}
+
+// The sum of the entries of xs, before its logarithm is taken.
+pub fn open_sum(xs: &[f64]) -> Open
+    ensures { λ r. ⌜ r ≡ opened (length (now (xs .entry))) (at (now (xs .entry))) ⌝ }
+{
+    let best = greatest(xs);
+    Open {
+        value: best.value,
+        sum: sum_others(xs, best),
+    }
+}
+
+// What an open sum comes to.
+pub fn close_sum(whole: Open) -> f64
+    ensures { λ r. ⌜ r ≡ closedSum whole ⌝ }
+{
+    close(
+        Peak {
+            value: whole.value,
+            place: 0,
+        },
+        whole.sum,
+    )
 }
 
 // The sum of the entries of xs.

@@ -1,4 +1,5 @@
 pub mod Scan
 pub mod Places
 pub mod Over
+pub mod Laid
 pub mod Rows

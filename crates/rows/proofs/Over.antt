@@ -4,10 +4,10 @@ use mathlib.Core.Path.{_≡_, refl, sym, ap, _∙_, subst}
 use mathlib.Core.List.{List, [], _∷_, _++_, append-assoc}
 use mathlib.Core.Logic.{⊎-elim}
 use native.Mathlib.Numerals.{add-one}
-use native.Mathlib.Nat.{zero-add, add-zero, add-suc, suc-add, add-sub-cancel-left, not-suc-le-zero, eq-or-lt-of-le, le-of-suc-le-suc}
+use native.Mathlib.Nat.{zero-add, add-zero, add-suc, suc-add, add-sub-cancel-left, not-suc-le-zero, eq-or-lt-of-le, le-of-suc-le-suc, lt-suc-self}
 use native.Mathlib.Omega.{arith}
 use lib.ListN.{length, getD, take, drop, set, length-append, length-drop, take-append-drop, List·getD-append}
-use lib.Seq.{drop-cons, set-at, drop-drop, take-at, take-append-le, getD-at, length-take-le, take-take, getD-take, getD-drop, take-nil, take-suc, drop-append-add, getD-append-add}
+use lib.Seq.{drop-cons, set-at, drop-drop, take-at, take-append-le, getD-at, length-take-le, take-take, getD-take, getD-drop, take-nil, take-suc, take-length, drop-append-add, getD-append-add}
 use Rattle.rows.specs.Lists.{tab, over}
 
 module _ {A : Type 0} where
@@ -34,6 +34,21 @@ module _ {A : Type 0} where
       (λ (e : i ≡ n). rw e (getD-at (tab n f) (f n) [] d n (length-tab n f)))
       (λ (l : i < n). let l' : i < length (tab n f) = rw length-tab l in List·getD-append (tab n f) _ d i l' ∙ getD-tab n f i d l)
       (eq-or-lt-of-le (le-of-suc-le-suc h))
+
+  -- where two rules agree
+  pub tab-same : (n : ℕ) (f g : ℕ → A) → ((k : ℕ) → k < n → f k ≡ g k) → tab n f ≡ tab n g
+  unfolding tab
+  tab-same zero f g h = refl
+  tab-same (suc n) f g h = rw (tab-same n f g (λ k l. h k (omega arith)), h n (lt-suc-self n))
+
+  -- a list by the rule of its own places
+  tab-front : (l : List A) (d : A) (n : ℕ) → n ≤ length l → tab n (λ (i : ℕ). getD l i d) ≡ take n l
+  unfolding tab
+  tab-front l d zero h = refl
+  tab-front l d (suc n) h = rw (tab-front l d n (omega arith)) (sym (take-suc l n d h))
+
+  pub tab-own : (l : List A) (d : A) → tab (length l) (λ (i : ℕ). getD l i d) ≡ l
+  tab-own l d = tab-front l d (length l) (omega arith) ∙ take-length l
 
   pub over-none : (i : ℕ) (l : List A) → over i [] l ≡ l
   unfolding over

@@ -1,14 +1,16 @@
 -- Laws of `flat`: rows laid one after the other, and read back. Assumes nothing.
 use Prim.Native.Nat.{ℕ, zero, suc, _+_, _*_, _≤_, _<_}
-use mathlib.Core.Path.{_≡_, sym, ap, _∙_}
+use mathlib.Core.Path.{_≡_, refl, sym, ap, ap₂, _∙_}
 use mathlib.Core.List.{List, _++_, append-assoc}
 use mathlib.Core.Logic.{⊎-elim}
 use native.Mathlib.Numerals.{add-one}
-use native.Mathlib.Nat.{zero-mul, suc-mul, not-suc-le-zero, eq-or-lt-of-le, le-of-suc-le-suc}
+use native.Mathlib.Nat.{zero-mul, suc-mul, not-suc-le-zero, eq-or-lt-of-le, le-of-suc-le-suc, lt-suc-self}
+use native.Mathlib.Omega.{arith}
 use lib.ListN.{length, getD, take, drop, length-append}
 use lib.Seq.{take-at, drop-at}
-use Rattle.rows.specs.Lists.{flat, over}
-use Rattle.rows.proofs.Over.{part-at, over-over}
+use Rattle.rows.specs.Lists.{flat, table, over}
+use Rattle.rows.proofs.Places.{row-room}
+use Rattle.rows.proofs.Over.{tab-same, part-at, over-over, over-settled}
 
 module _ {A : Type 0} where
   pub flat-more : (n : ℕ) (f : ℕ → List A) → flat (n + 1) f ≡ flat n f ++ f n
@@ -19,6 +21,12 @@ module _ {A : Type 0} where
   unfolding flat
   length-flat zero f s h = sym (zero-mul s)
   length-flat (suc n) f s h = rw (length-append, length-flat n f s h, h n, suc-mul)
+
+  -- where two rules agree
+  pub table-same : (n s : ℕ) (f g : ℕ → ℕ → A) → ((i k : ℕ) → i < n → k < s → f i k ≡ g i k) → table n s f ≡ table n s g
+  unfolding flat
+  table-same zero s f g h = refl
+  table-same (suc n) s f g h = ap₂ _++_ (table-same n s f g (λ i k l. h i k (omega arith))) (tab-same s (f n) (g n) (λ k l. h n k (lt-suc-self n) l))
 
   -- row n is laid after the rows before it
   pub over-row : (n s i : ℕ) (f : ℕ → List A) (l cur q : List A) → ((k : ℕ) → length (f k) ≡ s) → cur ≡ over 0 (flat n f) l → i ≡ n * s → i + s ≤ length l → q ≡ f n → over i q cur ≡ over 0 (flat (n + 1) f) l
@@ -56,3 +64,10 @@ module _ {A : Type 0} where
   unfolding over
   place-back n t s k f l cur d hs e h hk =
       rw e (sym (part-at (t * s) s _ k d hk) ∙ ap (λ (r : List A). getD r k d) (row-of n t s f hs h _))
+
+  -- n rows are laid over a list that had the first
+  pub rows-settled : (n s : ℕ) (f : ℕ → List A) (l mid cur : List A) → ((k : ℕ) → length (f k) ≡ s) → 0 < n → mid ≡ over 0 (flat 1 f) l → cur ≡ over 0 (flat n f) mid → cur ≡ over 0 (flat n f) l
+  rows-settled n s f l mid cur hs h d e =
+      let room = row-room 0 n s h in
+      let shorter : length (flat 1 f) ≤ length (flat n f) = rw (length-flat 1 f s hs, length-flat n f s hs) (omega (arith, room)) in
+      over-settled _ _ l mid cur e d shorter

@@ -1,4 +1,4 @@
--- A loop that looks for the first place that fails a test: what it knows at place i, and what it has found when it stops. Assumes nothing.
+-- The first place that fails a test: what a loop that looks for it knows at place i, and what it has found when it stops. Assumes nothing.
 use Prim.Native.Nat.{ℕ, zero, suc, _+_, _≤_, _<_, suc-le-suc}
 use mathlib.Core.Path.{_≡_, refl, sym}
 use mathlib.Core.Bool.{Bool, true, false, cond}
@@ -57,3 +57,25 @@ module _ {A : Type 0} where
   unfolding firstBad
   pass-all p d [] h = omega arith
   pass-all p d (x ∷ xs) h = rw (h 0 (omega arith)) (suc-le-suc (pass-all p d xs (λ (i : ℕ) l. h (suc i) (suc-le-suc l))))
+
+-- the element there fails, and no earlier one does
+module _ {A : Type 0} (good : A → Bool) (d : A) where
+  pub bad-there : (xs : List A) → firstBad good xs < length xs → good (getD xs (firstBad good xs) d) ≡ false
+  unfolding firstBad
+  bad-there [] h = absurd (not-suc-le-zero h)
+  bad-there (x ∷ xs) h = go (good x) refl (bad-there xs) h
+    where
+      go : (b : Bool) → good x ≡ b → (firstBad good xs < length xs → good (getD xs (firstBad good xs) d) ≡ false)
+          → cond b (suc (firstBad good xs)) 0 < suc (length xs) → good (getD (x ∷ xs) (cond b (suc (firstBad good xs)) 0) d) ≡ false
+      go true e rest k = rest (le-of-suc-le-suc k)
+      go false e rest k = e
+
+  pub bad-first : (xs : List A) (q : ℕ) → q < length xs → good (getD xs q d) ≡ false → firstBad good xs ≤ q
+  unfolding firstBad
+  bad-first [] q h k = absurd (not-suc-le-zero h)
+  bad-first (x ∷ xs) zero h k = rw k (omega arith)
+  bad-first (x ∷ xs) (suc q) h k = go (good x) (bad-first xs q (le-of-suc-le-suc h) k)
+    where
+      go : (b : Bool) → firstBad good xs ≤ q → cond b (suc (firstBad good xs)) 0 ≤ suc q
+      go true rest = suc-le-suc rest
+      go false rest = omega arith

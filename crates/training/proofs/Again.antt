@@ -4,7 +4,7 @@ use Prim.Native.Nat.{ℕ, zero, suc, _+_, _-_, _<_, _≤_}
 use native.Mathlib.Nat.{not-suc-le-zero}
 use native.Mathlib.Omega.{arith}
 use mathlib.Core.Path.{_≡_, refl, sym, ap, _∙_, subst}
-use mathlib.Core.Bool.{Bool, true, false, true≢false, not, cond, _&&_, _||_}
+use mathlib.Core.Bool.{Bool, true, false, true≢false, not, cond, _&&_}
 use mathlib.Core.List.{List, _++_}
 use borrow.Author.Tests.{ltb-false}
 use lib.Dec.{T, ltb, ltb→lt, nltb→le}
@@ -23,6 +23,7 @@ use Rattle.model.specs.Lent.{Lent, lent, S, M}
 use Rattle.model.specs.Good.{good, isPlusZero, goodEnd}
 use Rattle.model.specs.Model.{Model, modelOf}
 use Rattle.model.specs.Accepted.{Every, Accepted}
+use Rattle.model.proofs.Tests.{or-false}
 use Rattle.model.proofs.Done.{let-through}
 use Rattle.likelihood.proofs.Lid.{Low, accepted-low}
 use Rattle.training.specs.Pass.{Walks, walks, probx, atMostZero, occupancy, lastOccupancy, gamma, emitted, denominator, massless, newTransition, newEmission, newInitial, newEnd}
@@ -131,10 +132,6 @@ trained-accepted l a some mass =
     }
 
 -- ---- a pass that is done found mass
-or-false : (a b : Bool) → (a || b) ≡ false → (a ≡ false) × (b ≡ false)
-or-false true b h = absurd (true≢false h)
-or-false false b h = (refl, h)
-
 pub mass-of : (m : Model) (n : ℕ) → isDone (massCheck m (walks m n)) ≡ true → Mass m n
 unfolding massCheck Clear massless
 mass-of m n h =

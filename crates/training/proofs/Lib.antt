@@ -9,4 +9,3 @@ pub mod Same
 pub mod Outcome
 pub mod Bounds
 pub mod Again
-pub mod Examples

@@ -10,7 +10,7 @@ use lib.Ieee.{Float}
 use Rattle.order.specs.Float.{_⊕_, nought, at, minusInfinity}
 use Rattle.rows.specs.Lists.{tab, table, over, after}
 use Rattle.rows.proofs.Over.{length-tab, getD-tab, length-over, over-settled}
-use Rattle.rows.proofs.Rows.{length-flat, place-back}
+use Rattle.rows.proofs.Rows.{length-flat, table-same, place-back}
 use Rattle.answer.specs.Answer.{done, isDone}
 use Rattle.answer.specs.declared.Answer.{Answer}
 use Rattle.probs.proofs.Loops.{lnSum-same}
@@ -26,7 +26,7 @@ use Rattle.training.specs.Pass.{Walks, probx, arc, newTransition}
 use Rattle.training.specs.Rows.{rowsOf, readOf, Readable, Roomy}
 use Rattle.training.specs.Call.{Outputs, outputs, rooms, massCheck, Estimated, walked, checked, Trained}
 use Rattle.training.specs.Remade.{Remade}
-use Rattle.training.proofs.Same.{table-same, check-same, estimated-same}
+use Rattle.training.proofs.Same.{check-same, estimated-same}
 
 -- probx is the value of the forward walk
 pub probx-is : (m : Model) (n : ℕ) → 0 < n → forwardValue m n ≡ probx m n

@@ -1,28 +1,22 @@
 -- A pass over two walks that agree on every row and state, the rows in memory and those of the model, makes the same model. Assumes nothing.
 use Prim.Native.Nat.{ℕ, zero, suc, _-_, _≤_, _<_}
-use native.Mathlib.Nat.{lt-suc-self}
 use native.Mathlib.Omega.{arith}
 use mathlib.Core.Path.{_≡_, refl, ap, ap₂, _∙_}
 use mathlib.Core.Bool.{Bool, cond, _||_}
-use mathlib.Core.List.{List, _++_}
+use mathlib.Core.List.{List}
 use lib.Dec.{eqb}
 use lib.Ieee.{Float}
 use Rattle.order.specs.Float.{_⊕_, _⊖_, nought, isMinusInfinity}
-use Rattle.rows.specs.Lists.{flat, table, after}
+use Rattle.rows.specs.Lists.{after}
+use Rattle.rows.proofs.Over.{tab-same}
+use Rattle.rows.proofs.Rows.{table-same}
 use Rattle.probs.specs.Pair.{lnAdd, lnSub}
 use Rattle.probs.proofs.Loops.{lnSum-same}
 use Rattle.model.specs.Model.{Model, sampleAt}
-use Rattle.likelihood.proofs.Steps.{tab-same}
 use Rattle.training.specs.First.{first}
 use Rattle.training.specs.Pass.{Walks, atMostZero, occupancy, gamma, emitted, newEmission, newInitial, denominator, massless, newEnd, arc, newTransition}
 use Rattle.training.specs.Call.{Outputs, massCheck, Estimated}
 use Rattle.training.proofs.First.{first-same}
-
--- a table by rule, where two rules agree
-pub table-same : {A : Type 0} (n s : ℕ) (f g : ℕ → ℕ → A) → ((i k : ℕ) → i < n → k < s → f i k ≡ g i k) → table n s f ≡ table n s g
-unfolding flat
-table-same zero s f g h = refl
-table-same (suc n) s f g h = ap₂ _++_ (table-same n s f g (λ i k l. h i k (omega arith))) (tab-same s (f n) (g n) (λ k l. h n k (lt-suc-self n) l))
 
 abbrev pub walk : ℕ → (ℕ → ℕ → Float) → (ℕ → ℕ → Float) → Float → Walks
 walk n a b p = record { count = n; alpha = a; beta = b; probx = p }

@@ -7,9 +7,9 @@ use lib.Seq.{length-take-le, getD-take}
 use lib.Ieee.{Float}
 use Rattle.order.specs.Float.{_⊖_, minusInfinity}
 use Rattle.rows.specs.Lists.{tab}
+use Rattle.rows.proofs.Over.{tab-same}
 use Rattle.probs.specs.Sum.{lnSum}
 use Rattle.model.specs.Model.{Model}
-use Rattle.likelihood.proofs.Steps.{tab-same}
 use Rattle.training.specs.Pass.{Walks, atMostZero, gamma, emitted, newEmission, denominator, arc, newTransition}
 use Rattle.training.specs.Rows.{Holds, sharesOf}
 

@@ -79,12 +79,3 @@ module _ (r : ℕ → ℕ → Bool) (ρ : ℕ → ℕ) (is : (b k : ℕ) → r b
 
   pub best-is : (n w : ℕ) → Wins ρ n w → w ≡ bestOf r n
   best-is n w h = one-wins ρ n w (bestOf r n) h (best-wins n (omega (arith, h .below)))
-
--- the winner keeps its rank and the others fall, if they move: it wins
-pub wins-still : (ρ σ : ℕ → ℕ) (n w : ℕ) → σ w ≡ ρ w → ((b : ℕ) → σ b ≤ ρ b) → Wins ρ n w → Wins σ n w
-wins-still ρ σ n w e f h =
-    record {
-      below = h .below;
-      top = λ (b : ℕ) k. omega (arith, f b, h .top b k);
-      last = λ (b : ℕ) j k. omega (arith, f b, h .last b j k);
-    }

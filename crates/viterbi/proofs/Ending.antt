@@ -1,6 +1,7 @@
 -- How a score ends, `closed`: what the laws of the walk need of it, so that none of them looks into it. Assumes nothing.
 use Prim.Native.Nat.{ℕ}
-use mathlib.Core.Path.{_≡_}
+use mathlib.Core.Path.{_≡_, refl}
+use mathlib.Core.Bool.{false}
 use lib.Dec.{T}
 use lib.Ieee.{Float, le}
 use Rattle.order.specs.Float.{capped}
@@ -23,3 +24,8 @@ closed-mono m h j x y e c l = l
 pub closed-placed : (m : Model) (j : ℕ) (x : Float) → (T (m .ends) → T (capped (m .end j))) → T (capped x) → Placed x → Placed (closed m j x)
 unfolding closed
 closed-placed m j x e c p = p
+
+-- without an end state it ends as it stands
+pub closed-none : (m : Model) (j : ℕ) (x : Float) → m .ends ≡ false → closed m j x ≡ x
+unfolding closed
+closed-none m j x e = refl

@@ -16,4 +16,3 @@ pub mod Steps
 pub mod Found
 pub mod Unread
 pub mod Outcome
-pub mod Examples

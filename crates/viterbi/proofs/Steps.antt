@@ -1,4 +1,4 @@
--- Rows in memory meet the recurrences: what is worked out from the row of time t is the row of time t + 1. Assumes nothing.
+-- Rows in memory meet the recurrences: the first row, and what is worked out from the row of time t is the row of time t + 1. Assumes nothing.
 use Prim.Native.Nat.{ℕ, zero, suc, _+_, _-_, _<_}
 use mathlib.Core.Path.{_≡_, ap, _∙_, fun-ext}
 use mathlib.Core.List.{List}
@@ -7,13 +7,15 @@ use native.Mathlib.Nat.{not-suc-le-zero}
 use lib.ListN.{length}
 use lib.Ieee.{Float}
 use Rattle.order.specs.Float.{at, minusInfinity}
-use Rattle.rows.specs.Lists.{tab}
-use Rattle.rows.proofs.Over.{length-tab, getD-tab}
-use Rattle.model.specs.Lent.{Lent, S, M}
-use Rattle.model.specs.Model.{Model, modelOf, sampleAt}
+use Rattle.rows.specs.Lists.{tab, flat, table, over}
+use Rattle.rows.proofs.Over.{length-tab, getD-tab, tab-same}
+use Rattle.model.specs.Lent.{Lent, S}
+use Rattle.model.specs.Model.{Model, modelOf}
+use Rattle.model.specs.Row.{firstRow}
+use Rattle.model.proofs.FirstRow.{first-row-is}
 use Rattle.viterbi.specs.Best.{predecessor, greatest}
 use Rattle.viterbi.specs.Walk.{cell, closed, pathTo, value, from, lastState, bestPath, bestValue}
-use Rattle.viterbi.specs.Inner.{nextFrom, nextValue}
+use Rattle.viterbi.specs.Inner.{nextFrom, nextValue, firstFrom}
 use Rattle.viterbi.proofs.Best.{best-below, best-same}
 
 -- ---- what is asked of a row is asked below S only
@@ -30,14 +32,31 @@ module _ (n : ℕ) (v w : ℕ → Float) (same : (k : ℕ) → k < n → v k ≡
   unfolding greatest
   greatest-same = best-same _ _ n (λ (b k : ℕ) h l. rw (same b h, same k l))
 
+-- ---- the first row, laid over o
+module _ (l : Lent) where
+  pub first-values : (emissions o cur : List Float) → length (l .initial) ≡ S l → emissions ≡ tab (S l) (modelOf l .emission 0) →
+      cur ≡ over 0 (firstRow (l .initial) emissions) o → cur ≡ over 0 (table 1 (S l) (value (modelOf l))) o
+  unfolding flat value
+  first-values emissions o cur e h d = d ∙ ap (λ (row : List Float). over 0 row o) (first-row-is l emissions e h)
+
+  pub first-predecessors : (o cur : List ℕ) → cur ≡ over 0 (firstFrom (S l)) o → cur ≡ over 0 (table 1 (S l) (from (modelOf l))) o
+  unfolding flat from
+  first-predecessors o cur d = d
+
 -- ---- from the row of time t
 module _ (l : Lent) (some : 0 < S l) (t : ℕ) (row : List Float) (is : row ≡ tab (S l) (value (modelOf l) t)) where
   at-row : (k : ℕ) → k < S l → at row k ≡ value (modelOf l) t k
   at-row k h = rw is (getD-tab (S l) _ k minusInfinity h)
 
-  pub next-values : tab (S l) (nextValue (S l) (M l) (l .transition) (l .emission) (sampleAt (l .samples) (t + 1)) row) ≡ tab (S l) (value (modelOf l) (t + 1))
+  pub next-values : (emissions : List Float) → emissions ≡ tab (S l) (modelOf l .emission (t + 1)) →
+      tab (S l) (nextValue (S l) (l .transition) emissions row) ≡ tab (S l) (value (modelOf l) (t + 1))
   unfolding value
-  next-values = rw add-one (ap (tab (S l)) (fun-ext (λ (j : ℕ). cell-same (S l) (at row) (value (modelOf l) t) at-row some _ _)))
+  next-values emissions e =
+      let now : emissions ≡ tab (S l) (modelOf l .emission (suc t)) = rw (add-one t) at e in
+      rw add-one
+      (tab-same (S l) _ _ (λ j s.
+      cell-same (S l) (at row) (value (modelOf l) t) at-row some _ _
+      ∙ ap (cell (S l) (value (modelOf l) t) (λ (k : ℕ). modelOf l .transition k j)) (rw now (getD-tab (S l) _ j minusInfinity s))))
 
   pub next-from : tab (S l) (nextFrom (S l) (l .transition) row) ≡ tab (S l) (from (modelOf l) (t + 1))
   unfolding from

@@ -10,7 +10,7 @@ use Rattle.rows.specs.Lists.{tab, table, over}
 use Rattle.answer.specs.declared.Answer.{Answer}
 use Rattle.model.specs.Lent.{Lent, lent, S, M, T}
 use Rattle.model.specs.Checks.{room, check}
-use Rattle.model.specs.Model.{modelOf, transitionOf, emissionOf}
+use Rattle.model.specs.Model.{modelOf, transitionOf}
 use Rattle.viterbi.specs.Best.{predecessor}
 use Rattle.viterbi.specs.Walk.{cell, value, from, bestPath, bestValue}
 use Rattle.viterbi.specs.Call.{Outputs}
@@ -36,21 +36,20 @@ pub record Walkable (l : Lent) (values : List Float) (from : List ℕ) : Type 0 
   pub valuesRoom : T l * S l ≤ length values
   pub fromRoom : T l * S l ≤ length from
 
--- the emissions of symbol x, and room for a row from place i on
-pub record Emitting (states symbols : ℕ) (emission : List Float) (x i : ℕ) (values : List Float) (from : List ℕ) : Type 0 where
+-- what the row after the one at `start` asks, where `emissions` are those of its sample, state by state
+pub record Continuing (states : ℕ) (transition emissions : List Float) (start : ℕ) (values : List Float) (from : List ℕ) : Type 0 where
   pub fewStates : states ≤ 64
-  pub emissionLength : length emission ≡ states * symbols
-  pub symbol : x < symbols
-  pub valuesRoom : i + states ≤ length values
-  pub fromRoom : i + states ≤ length from
+  pub transitionLength : length transition ≡ states * states
+  pub emissionsLength : length emissions ≡ states
+  pub valuesRoom : start + states + states ≤ length values
+  pub fromRoom : start + states + states ≤ length from
 
--- the predecessor and the value of state j in the row after `row`, where the next sample is x
+-- the predecessor and the value of state j in the row after `row`
 abbrev pub nextFrom : ℕ → List Float → List Float → ℕ → ℕ
 nextFrom states transition row j = predecessor states (at row) (λ (k : ℕ). transitionOf states transition k j)
 
-abbrev pub nextValue : ℕ → ℕ → List Float → List Float → ℕ → List Float → ℕ → Float
-nextValue states symbols transition emission x row j =
-    cell states (at row) (λ (k : ℕ). transitionOf states transition k j) (emissionOf symbols emission x j)
+abbrev pub nextValue : ℕ → List Float → List Float → List Float → ℕ → Float
+nextValue states transition emissions row j = cell states (at row) (λ (k : ℕ). transitionOf states transition k j) (at emissions j)
 
 -- what holding all predecessors against each other asks: a row, the table by which it is left, and a place for every state's best
 pub record Rankable (states : ℕ) (transition row sums : List Float) (winners : List ℕ) : Type 0 where
@@ -81,15 +80,14 @@ pub record Laid (i : ℕ) (v : List Float) (f : List ℕ) (values values' : List
   pub valuesLaid : values' ≡ over i v values
   pub fromLaid : from' ≡ over i f from
 
--- the first row, for sample x
-abbrev pub Begun : ℕ → ℕ → List Float → List Float → ℕ → List Float → List Float → List ℕ → List ℕ → Type 0
-Begun states symbols initial emission x =
-    Laid 0 (tab states (λ (j : ℕ). at initial j ⊕ emissionOf symbols emission x j)) (tab states (λ (j : ℕ). j))
+-- the predecessors of the first row: "predecessor is the state itself"
+abbrev pub firstFrom : ℕ → List ℕ
+firstFrom states = tab states (λ (j : ℕ). j)
 
--- the row after the one at `start`, for sample x
-abbrev pub Stepped : ℕ → ℕ → List Float → List Float → ℕ → ℕ → List Float → List Float → List ℕ → List ℕ → Type 0
-Stepped states symbols transition emission x start values =
-    Laid (start + states) (tab states (nextValue states symbols transition emission x (take states (drop start values))))
+-- the row after the one at `start`
+abbrev pub Stepped : ℕ → List Float → List Float → ℕ → List Float → List Float → List ℕ → List ℕ → Type 0
+Stepped states transition emissions start values =
+    Laid (start + states) (tab states (nextValue states transition emissions (take states (drop start values))))
     (tab states (nextFrom states transition (take states (drop start values)))) values
 
 -- every row

@@ -7,6 +7,8 @@ use model::check_entries;
 use model::check_output;
 use model::check_sizes;
 use model::entry;
+use model::row::first_row;
+use model::row::lay_emissions;
 use order::is_minus_infinity;
 use order::minus_infinity;
 ghost use mathlib.Core.Path.{_≡_};
@@ -20,8 +22,8 @@ ghost use Rattle.model.specs.Lent.{lent};
 ghost use Rattle.viterbi.specs.Best.{greatest};
 ghost use Rattle.viterbi.specs.Walk.{pathTo};
 ghost use Rattle.viterbi.specs.Call.{Decoded, outputs};
-ghost use Rattle.viterbi.specs.Inner.{checkedFor, walked, bySum, byRank, fromAt};
-ghost use Rattle.viterbi.specs.Inner.{Offered, Rankable, Ranked, Emitting, Begun, Stepped, Walkable, Filled, Traceable, Walked};
+ghost use Rattle.viterbi.specs.Inner.{checkedFor, walked, bySum, byRank, firstFrom, fromAt};
+ghost use Rattle.viterbi.specs.Inner.{Offered, Rankable, Ranked, Continuing, Stepped, Walkable, Filled, Traceable, Walked};
 
 // x where the test is met, else y.
 fn pick(test: bool, x: f64, y: f64) -> f64
@@ -108,43 +110,29 @@ fn predecessors(
     }
 }
 
-// The first row, for sample x: each state is its own predecessor.
-fn first_row(
-    states: usize,
-    symbols: usize,
-    initial: &[f64],
-    emission: &[f64],
-    x: usize,
-    values: &mut [f64],
-    from: &mut [u8],
-)
-    requires { ⌜ length (now initial) ≡ states ⌝ }
-    requires { ⌜ Emitting states symbols (now emission) x 0 (now values) (now from) ⌝ }
-    ensures { λ _. ⌜ Begun states symbols (now (initial .entry)) (now (emission .entry)) x
-        (now (values .entry)) (now (values .exit)) (now (from .entry)) (now (from .exit)) ⌝ }
+// The predecessors of the first row: each state is its own.
+fn first_from(states: usize, from: &mut [u8])
+    requires { ⌜ (states ≤ 64) × (states ≤ length (now from)) ⌝ }
+    ensures { λ _. ⌜ now (from .exit) ≡ over 0 (firstFrom states) (now (from .entry)) ⌝ }
 {
     let mut j = 0;
     while j < states {
-        values[j] = entry(initial, j) + entry(emission, j * symbols + x);
         from[j] = j as u8;
         j += 1;
     }
 }
 
-// The row after the one at `start`, for sample x.
+// The row after the one at `start`, for a sample of these emissions.
 fn next_row(
     states: usize,
-    symbols: usize,
     transition: &[f64],
-    emission: &[f64],
-    x: usize,
+    emissions: &[f64],
     start: usize,
     values: &mut [f64],
     from: &mut [u8],
 )
-    requires { ⌜ length (now transition) ≡ states * states ⌝ }
-    requires { ⌜ Emitting states symbols (now emission) x (start + states) (now values) (now from) ⌝ }
-    ensures { λ _. ⌜ Stepped states symbols (now (transition .entry)) (now (emission .entry)) x start
+    requires { ⌜ Continuing states (now transition) (now emissions) start (now values) (now from) ⌝ }
+    ensures { λ _. ⌜ Stepped states (now (transition .entry)) (now (emissions .entry)) start
         (now (values .entry)) (now (values .exit)) (now (from .entry)) (now (from .exit)) ⌝ }
 {
     let next = start + states;
@@ -159,7 +147,7 @@ fn next_row(
     );
     let mut j = 0;
     while j < states {
-        values[next + j] = entry(&sums, j) + entry(emission, j * symbols + x);
+        values[next + j] = entry(&sums, j) + entry(emissions, j);
         from[next + j] = winners[j] as u8;
         j += 1;
     }
@@ -181,24 +169,30 @@ fn rows(
         (walked states symbols (now (transition .entry)) (now (emission .entry)) (now (initial .entry)) (now (samples .entry)))
         (now (values .entry)) (now (values .exit)) (now (from .entry)) (now (from .exit)) ⌝ }
 {
-    first_row(
+    let mut emissions = [0.0; 64];
+    lay_emissions(
+        emission,
         states,
         symbols,
-        initial,
-        emission,
         samples[0] as usize,
-        values,
-        from,
+        &mut emissions,
     );
+    first_row(initial, &emissions[..states], values);
+    first_from(states, from);
     let mut t = 0;
     let mut start = 0;
     while t + 1 < samples.len() {
-        next_row(
+        lay_emissions(
+            emission,
             states,
             symbols,
-            transition,
-            emission,
             samples[t + 1] as usize,
+            &mut emissions,
+        );
+        next_row(
+            states,
+            transition,
+            &emissions[..states],
             start,
             values,
             from,

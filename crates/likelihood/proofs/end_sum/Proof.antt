@@ -5,7 +5,7 @@ use native.Mathlib.Nat.{zero-add}
 use Prim.Native.Nat.{_-_}
 use mathlib.Core.Path.{sym, ap₂}
 use Rattle.order.specs.Float.{_⊕_}
-use Rattle.likelihood.proofs.Laid.{Laid, laid-none, laid-more, laid-done}
+use Rattle.rows.proofs.Laid.{Laid, laid-none, laid-more, laid-done}
 use lib.Seq.{length-take-le}
 use Rattle.likelihood.specs.Inner.{ending}
 use Rattle.likelihood.proofs.Terms.{sum-front}

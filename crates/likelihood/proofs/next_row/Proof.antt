@@ -2,59 +2,70 @@
 use borrow.Author.Needs.{needs}
 use native.Mathlib.Omega.{arith}
 use denote.Ref.{now}
-use Rattle.rows.proofs.Over.{part-kept, length-part}
-use Prim.Native.Nat.{_+_, _-_}
-use mathlib.Core.Path.{_≡_, refl}
-use Rattle.likelihood.proofs.Laid.{Laid, laid-none, laid-more, laid-done}
+use Rattle.rows.proofs.Over.{length-part}
+use Prim.Native.Nat.{ℕ, _+_, _-_}
+use mathlib.Core.Path.{_≡_, refl, _∙_}
+use Rattle.rows.proofs.Laid.{Laid, laid-none, laid-more, laid-done}
 use lib.ListN.{take, drop}
 use Rattle.likelihood.specs.Inner.{cellOf}
 use Rattle.likelihood.proofs.next_row.Statement.{statement}
 use Rattle.likelihood.proofs.next_row.Tie as tie
 
 abbrev Inv-loop : tie.InvT-loop
-Inv-loop back values₀ at transition emissions states base j₀ values j =
+Inv-loop back values₀ at transition emissions states base row j₀ values j =
     Laid states base (cellOf back states transition emissions (take states (drop at values₀))) values₀ values j
 
 abbrev μ-loop : tie.MeasureT-loop
-μ-loop back values₀ at transition emissions states base j₀ values j = states - j
+μ-loop back values₀ at transition emissions states base row j₀ values j = states - j
 
--- the row before, as `cell` is passed it, is as it was at entry
-before : (c : tie.In-loop Inv-loop μ-loop) → let a = c .before .before .before .before .before .args in
-    take (a .at + a .states - a .at) (drop (a .at) (c .before .loop .values)) ≡ take (a .states) (drop (a .at) (now (a .values)))
-before c =
-    let a = c .before .before .before .before .before .args in
-    part-kept (a .at) (a .states) _ (now (a .values)) _ (c .before .loop .inv .is) (omega arith)
+-- the row before, as `open_row` is passed it, is as long as there are states
+whole : (at states : ℕ) → at + states - at ≡ states
+whole at states = omega arith
 
 add-base : tie.Need-add-base Inv-loop μ-loop
 add-base c = search needs
 
+mul-open-row : tie.Need-mul-open-row Inv-loop μ-loop
+mul-open-row c = search needs
+
+sub-open-row : tie.Need-sub-open-row Inv-loop μ-loop
+sub-open-row c = search needs
+
+part-open-row-start : tie.Need-part-open-row-start Inv-loop μ-loop
+part-open-row-start c = search needs
+
+part-open-row-end : tie.Need-part-open-row-end Inv-loop μ-loop
+part-open-row-end c = search needs
+
+open-row-requires : tie.Need-open-row-requires Inv-loop μ-loop
+open-row-requires c κs =
+    let a = c .before .before .before .before .before .args in
+    let p = c .before .before .before .before .before .pre in
+    rw (whole (a .at) (a .states))
+    record {
+      fewStates = p .fewStates;
+      rowLength = length-part (a .at) (a .states) (now (a .values)) (omega (arith, p .room));
+      transitionLength = p .transitionLength;
+      emissionsLength = p .emissionsLength;
+    }
+
 loop-holds : tie.Need-loop-holds Inv-loop μ-loop
 loop-holds c = laid-none _ _ _ _
 
-mul-cell : tie.Need-mul-cell Inv-loop μ-loop
-mul-cell c = search needs
+mul-t18 : tie.Need-mul-t18 Inv-loop μ-loop
+mul-t18 c = search needs
 
-sub-cell : tie.Need-sub-cell Inv-loop μ-loop
-sub-cell c = search needs
+element-copy-out-t21 : tie.Need-element-copy-out-t21 Inv-loop μ-loop
+element-copy-out-t21 c = search needs
 
-part-cell-start : tie.Need-part-cell-start Inv-loop μ-loop
-part-cell-start c = search needs
+mul-t22 : tie.Need-mul-t22 Inv-loop μ-loop
+mul-t22 c = search needs
 
-part-cell-end : tie.Need-part-cell-end Inv-loop μ-loop
-part-cell-end c = search needs
+element-copy-out-t25 : tie.Need-element-copy-out-t25 Inv-loop μ-loop
+element-copy-out-t25 c = search needs
 
-cell-requires : tie.Need-cell-requires Inv-loop μ-loop
-cell-requires c κs =
-    let a = c .before .before .before .before .before .before .before .args in
-    let p = c .before .before .before .before .before .before .before .pre in
-    rw (before (c .before .before))
-    record {
-      fewStates = p .fewStates;
-      rowLength = length-part (a .at) (a .states) (now (a .values)) (omega arith);
-      transitionLength = p .transitionLength;
-      emissionsLength = p .emissionsLength;
-      state = c .before .before .loop-test .taken;
-    }
+close-sum-requires : tie.Need-close-sum-requires Inv-loop μ-loop
+close-sum-requires c κs = search needs
 
 add-values : tie.Need-add-values Inv-loop μ-loop
 add-values c = search needs
@@ -73,8 +84,11 @@ loop-less c = search needs
 
 loop-again : tie.Need-loop-again Inv-loop μ-loop
 loop-again c =
-    let is = rw (before (c .before .before .before)) at (c .cell .ensures) in
-    laid-more _ _ _ _ _ _ _ _ (c .before .before .before .before .loop .inv) (c .before .before .before .loop-test .taken) (omega arith) refl is
+    let a = c .before .before .before .before .before .before .before .before .before .before .before .args in
+    let p = c .before .before .before .before .before .before .before .before .before .before .before .pre in
+    let inside = c .before .before .before .loop-test .taken in
+    let sum = rw (whole (a .at) (a .states)) at (c .before .before .before .before .before .open-row .ensures .closes _ inside) in
+    laid-more _ _ _ _ _ _ _ _ (c .before .before .before .before .loop .inv) inside (omega (arith, p .room)) refl (c .close-sum .ensures ∙ sum)
 
 same-length : tie.Need-same-length Inv-loop μ-loop
 same-length c = search needs
@@ -89,12 +103,17 @@ next-row-spec =
     Inv-loop
     μ-loop
     add-base
+    mul-open-row
+    sub-open-row
+    part-open-row-start
+    part-open-row-end
+    open-row-requires
     loop-holds
-    mul-cell
-    sub-cell
-    part-cell-start
-    part-cell-end
-    cell-requires
+    mul-t18
+    element-copy-out-t21
+    mul-t22
+    element-copy-out-t25
+    close-sum-requires
     add-values
     mul-values
     slice-write-values

@@ -6,8 +6,9 @@ use Prim.Native.Nat.{_-_}
 use mathlib.Core.Path.{sym, ap₂}
 use lib.Seq.{length-take-le}
 use Rattle.order.specs.Float.{_⊕_}
+use Rattle.probs.proofs.Loops.{closed-done}
 use Rattle.likelihood.specs.Inner.{term}
-use Rattle.likelihood.proofs.Laid.{Laid, laid-none, laid-more, laid-done}
+use Rattle.rows.proofs.Laid.{Laid, laid-none, laid-more, laid-done}
 use Rattle.likelihood.proofs.Terms.{sum-front}
 use Rattle.likelihood.proofs.row_sum.Statement.{statement}
 use Rattle.likelihood.proofs.row_sum.Tie as tie
@@ -50,16 +51,16 @@ loop-again c =
 array-share-prefix-terms : tie.Need-array-share-prefix-terms Inv-loop μ-loop
 array-share-prefix-terms c = search needs
 
-slice-aggregate-ln-sum : tie.Need-slice-aggregate-ln-sum Inv-loop μ-loop
-slice-aggregate-ln-sum c = sym (length-take-le _ _ (omega arith))
+slice-aggregate-open-sum : tie.Need-slice-aggregate-open-sum Inv-loop μ-loop
+slice-aggregate-open-sum c = sym (length-take-le _ _ (omega arith))
 
-ln-sum-requires : tie.Need-ln-sum-requires Inv-loop μ-loop
-ln-sum-requires c κs = search needs
+open-sum-requires : tie.Need-open-sum-requires Inv-loop μ-loop
+open-sum-requires c κs = search needs
 
 returns : tie.Need-returns Inv-loop μ-loop
 returns c =
     let inv = c .before .before .before .loop .inv in
-    sum-front _ _ _ _ _ (laid-done _ _ _ _ _ _ inv (search needs)) (c .ln-sum .ensures)
+    sum-front _ _ _ _ _ (laid-done _ _ _ _ _ _ inv (search needs)) (closed-done _ _ _ (c .open-sum .ensures))
 
 pub row-sum-spec : {M : Type 1} → statement M
 row-sum-spec =
@@ -77,6 +78,6 @@ row-sum-spec =
     loop-less
     loop-again
     array-share-prefix-terms
-    slice-aggregate-ln-sum
-    ln-sum-requires
+    slice-aggregate-open-sum
+    open-sum-requires
     returns)

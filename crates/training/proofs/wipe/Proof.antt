@@ -5,7 +5,7 @@ use Prim.Native.Nat.{ℕ, _-_}
 use mathlib.Core.Path.{refl, sym}
 use lib.Ieee.{ofBits}
 use Rattle.order.specs.Float.{nought}
-use Rattle.likelihood.proofs.Laid.{Laid, laid-none, laid-more, laid-done}
+use Rattle.rows.proofs.Laid.{Laid, laid-none, laid-more, laid-done}
 use Rattle.training.proofs.wipe.Statement.{statement}
 use Rattle.training.proofs.wipe.Tie as tie
 

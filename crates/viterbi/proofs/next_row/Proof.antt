@@ -1,5 +1,5 @@
 -- `viterbi::next_row` meets its contract. The loop's invariant: the first j places of the next row are laid over each table. Assumes nothing.
-use Prim.Native.Nat.{_+_, _*_, _-_, _≤_, _<_}
+use Prim.Native.Nat.{_-_, _≤_, _<_}
 use mathlib.Core.Path.{_≡_, refl, ap₂, _∙_}
 use mathlib.Core.List.{List}
 use native.Mathlib.Omega.{arith}
@@ -11,7 +11,6 @@ use borrow.Author.Needs.{needs}
 use Rattle.order.specs.Float.{_⊕_}
 use Rattle.rows.specs.Lists.{tab}
 use Rattle.rows.proofs.Over.{over-tab-more, over-tab-none, length-part}
-use Rattle.rows.proofs.Places.{within-rows}
 use Rattle.viterbi.specs.Best as Best
 use Rattle.viterbi.specs.Walk.{cell}
 use Rattle.viterbi.specs.Inner.{Laid, Ranked, nextFrom, nextValue}
@@ -20,13 +19,13 @@ use Rattle.viterbi.proofs.next_row.Statement.{statement}
 use Rattle.viterbi.proofs.next_row.Tie as tie
 
 abbrev Inv-loop : tie.InvT-loop
-Inv-loop states symbols transition emission x start values₀ from₀ next sums winners j₀ values from j =
+Inv-loop states transition emissions start values₀ from₀ next sums winners j₀ values from j =
     (j ≤ states) × (length values ≡ length values₀) × (length from ≡ length from₀) × (length sums ≡ 64) × (length winners ≡ 64)
-    × Laid next (tab j (nextValue states symbols transition emission x (take states (drop start values₀))))
+    × Laid next (tab j (nextValue states transition emissions (take states (drop start values₀))))
     (tab j (nextFrom states transition (take states (drop start values₀)))) values₀ values from₀ from
 
 abbrev μ-loop : tie.MeasureT-loop
-μ-loop states symbols transition emission x start values₀ from₀ next sums winners j₀ values from j = states - j
+μ-loop states transition emissions start values₀ from₀ next sums winners j₀ values from j = states - j
 
 -- the predecessors are found here, and the function entered there
 abbrev found : tie.At-loop Inv-loop μ-loop → tie.After-predecessors Inv-loop μ-loop
@@ -46,10 +45,6 @@ ranked c = let p = found c in let a = entered p .args in rw (add-sub-cancel-left
 below : (c : tie.In-loop Inv-loop μ-loop) → let p = found (c .before) in getD (p .predecessors .last .1 .1 .1 .1 .0) (c .before .loop .j) 0 < entered p .args .states
 unfolding Best.predecessor
 below c = rw (ranked (c .before) .winner (c .before .loop .j) (c .loop-test .taken)) (best-below _ _ (omega (arith, c .loop-test .taken)))
-
--- the emission that is read is within the table
-place : (c : tie.In-loop Inv-loop μ-loop) → let a = entered (found (c .before)) .args in c .before .loop .j * a .symbols + a .x < length (now (a .emission))
-place c = let p = entered (found (c .before)) .pre .1 in rw (p .emissionLength) (within-rows (c .loop-test .taken) (p .symbol))
 
 add-next : tie.Need-add-next Inv-loop μ-loop
 add-next c = search needs
@@ -76,10 +71,10 @@ predecessors-requires : tie.Need-predecessors-requires Inv-loop μ-loop
 predecessors-requires c κs =
     let s = c .before .before .before .before .before .before .before .before in
     record {
-      rowLength = rw (add-sub-cancel-left (s .args .start) (s .args .states)) (length-part (s .args .start) (s .args .states) (now (s .args .values)) (omega (arith, s .pre .1 .valuesRoom)));
-      transitionLength = s .pre .0;
-      sumsRoom = s .pre .1 .fewStates;
-      winnersRoom = s .pre .1 .fewStates;
+      rowLength = rw (add-sub-cancel-left (s .args .start) (s .args .states)) (length-part (s .args .start) (s .args .states) (now (s .args .values)) (omega (arith, s .pre .valuesRoom)));
+      transitionLength = s .pre .transitionLength;
+      sumsRoom = s .pre .fewStates;
+      winnersRoom = s .pre .fewStates;
     }
 
 loop-holds : tie.Need-loop-holds Inv-loop μ-loop
@@ -91,14 +86,8 @@ slice-aggregate-entry c = search needs
 entry-requires : tie.Need-entry-requires Inv-loop μ-loop
 entry-requires c κs = search needs
 
-mul-entry : tie.Need-mul-entry Inv-loop μ-loop
-mul-entry c = omega (arith, place (c .before .before))
-
-add-entry : tie.Need-add-entry Inv-loop μ-loop
-add-entry c = omega (arith, place (c .before .before))
-
 entry-requires-2 : tie.Need-entry-requires-2 Inv-loop μ-loop
-entry-requires-2 c κs = omega (arith, place (c .before .before))
+entry-requires-2 c κs = search needs
 
 add-values : tie.Need-add-values Inv-loop μ-loop
 add-values c = search needs
@@ -116,7 +105,7 @@ array-read-from : tie.Need-array-read-from Inv-loop μ-loop
 array-read-from c = search needs
 
 cast-from : tie.Need-cast-from Inv-loop μ-loop
-cast-from c = let turn = c .before .before .before in omega (arith, below turn, entered (found (turn .before)) .pre .1 .fewStates)
+cast-from c = let turn = c .before .before .before in omega (arith, below turn, entered (found (turn .before)) .pre .fewStates)
 
 add-from : tie.Need-add-from Inv-loop μ-loop
 add-from c = search needs
@@ -135,7 +124,7 @@ unfolding cell
 loop-again c =
     let turn = c .before .before .before in
     let l = turn .before in
-    let p = entered (found l) .pre .1 in
+    let p = entered (found l) .pre in
     let h = l .loop .inv in
     let best = ranked l in (
       search needs,
@@ -177,8 +166,6 @@ next-row-spec =
     loop-holds
     slice-aggregate-entry
     entry-requires
-    mul-entry
-    add-entry
     entry-requires-2
     add-values
     mul-values

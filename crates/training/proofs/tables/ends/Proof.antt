@@ -4,7 +4,7 @@ use native.Mathlib.Omega.{arith}
 use native.Mathlib.Nat.{zero-add}
 use Prim.Native.Nat.{_-_}
 use mathlib.Core.Path.{sym, _∙_}
-use Rattle.likelihood.proofs.Laid.{Laid, laid-none, laid-more, laid-done}
+use Rattle.rows.proofs.Laid.{Laid, laid-none, laid-more, laid-done}
 use Rattle.training.specs.Pass.{newEnd}
 use Rattle.training.specs.Rows.{rowsOf}
 use Rattle.training.proofs.tables.ends.Statement.{statement}

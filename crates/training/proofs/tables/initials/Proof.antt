@@ -3,7 +3,7 @@ use borrow.Author.Needs.{needs}
 use native.Mathlib.Nat.{zero-add}
 use Prim.Native.Nat.{_-_}
 use mathlib.Core.Path.{sym, ap, _∙_}
-use Rattle.likelihood.proofs.Laid.{Laid, laid-none, laid-more, laid-done}
+use Rattle.rows.proofs.Laid.{Laid, laid-none, laid-more, laid-done}
 use Rattle.training.specs.Pass as Spec
 use Rattle.training.specs.Rows.{rowsOf}
 use Rattle.training.proofs.tables.initials.Statement.{statement}

@@ -5,7 +5,7 @@ use mathlib.Core.Path.{refl, ap, _∙_}
 use lib.ListN.{length}
 use lib.Ieee.{Float}
 use Rattle.order.specs.Float.{_⊖_}
-use Rattle.likelihood.proofs.Laid.{Laid, laid-none, laid-more, laid-done}
+use Rattle.rows.proofs.Laid.{Laid, laid-none, laid-more, laid-done}
 use Rattle.training.specs.Pass.{atMostZero}
 use Rattle.training.specs.Rows.{sharesOf}
 use Rattle.training.proofs.tables.store_shares.Statement.{statement}
