@@ -4,3 +4,7 @@ pub mod BestPath
 pub mod Calls
 pub mod Room
 pub mod Unique
+pub mod FirstFault
+pub mod Tells
+pub mod Always
+pub mod Likelihood

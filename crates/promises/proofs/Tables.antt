@@ -11,22 +11,19 @@ use Rattle.order.specs.Float.{nought, at}
 use Rattle.rows.proofs.Places.{within-rows}
 use Rattle.model.specs.Lent as Lent
 use Rattle.model.specs.Lent.{Lent, S, M}
-use Rattle.model.specs.Good.{good, goodEnd}
+use Rattle.model.specs.Good.{goodEnd}
 use Rattle.model.specs.Accepted.{Accepted}
 use Rattle.model.specs.Model.{modelOf, sampleAt}
 use Rattle.model.specs.declared.Shape.{Shape}
+use Rattle.model.proofs.Entries.{good-low}
 use Rattle.viterbi.proofs.Tame.{Tame, Below}
 use Rattle.viterbi.proofs.Ceiling.{tame-under, room-nought}
 use Rattle.promises.specs.BestPath.{AtMost, Raised}
 
--- a good entry is at most 0
-nonpositive : (x : Float) → T (good x) → T (le x nought)
-unfolding good
-nonpositive x g = g
-
+-- an entry that is good where there is an end state is at most 0
 end-nonpositive : (ends : Bool) (x : Float) → T ends → T (goodEnd ends x) → T (le x nought)
 unfolding goodEnd
-end-nonpositive true x e g = nonpositive x g
+end-nonpositive true x e g = good-low x g
 end-nonpositive false x e g = absurd e
 
 -- ---- what is lent is accepted: each place that the walk reads is one of the table
@@ -48,9 +45,9 @@ module _ (l : Lent) (a : Accepted l) (n : ℕ) (few : n < Lent.T l) where
       tame-under n nought (room-nought n) (modelOf l)
       (record {
         some = a .someState;
-        initial = λ (j : ℕ) s. nonpositive _ (a .initialGood j (initial-place j s));
-        transition = λ (k j : ℕ) i s. nonpositive _ (a .transitionGood _ (transition-place k j i s));
-        emission = λ (t j : ℕ) i s. nonpositive _ (a .emissionGood _ (emission-place t j i s));
+        initial = λ (j : ℕ) s. good-low _ (a .initialGood j (initial-place j s));
+        transition = λ (k j : ℕ) i s. good-low _ (a .transitionGood _ (transition-place k j i s));
+        emission = λ (t j : ℕ) i s. good-low _ (a .emissionGood _ (emission-place t j i s));
         end = λ e (j : ℕ) s. end-nonpositive (l .shape .ends) _ e (a .endGood j (end-place j s));
       })
 

@@ -1,3 +1,6 @@
 pub mod BestPath
 pub mod Calls
 pub mod Unique
+pub mod Faults
+pub mod Always
+pub mod Likelihood

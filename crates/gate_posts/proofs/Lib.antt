@@ -1,0 +1,4 @@
+pub mod Kernels
+pub mod OneSample
+pub mod NoMass
+pub mod Table

@@ -1,0 +1,21 @@
+-- What forward and Viterbi say of each other, as definitions: the likelihood counts every path, and the best one is among them.
+use Prim.Native.Nat.{ℕ, _<_}
+use mathlib.Core.Path.{_≡_}
+use mathlib.Core.Bool.{false}
+use lib.Dec.{T}
+use lib.Ieee.{le}
+use Rattle.model.specs.Lent as Lent
+use Rattle.model.specs.Lent.{Lent, S}
+use Rattle.model.specs.Accepted.{Accepted}
+use Rattle.model.specs.Model.{modelOf}
+use Rattle.viterbi.specs.Walk.{value, bestValue}
+use Rattle.likelihood.specs.Walk.{alpha, forwardValue}
+
+-- each forward cell is at least the Viterbi cell of the same sample and state
+abbrev pub ForwardIsAbove : Type 0
+ForwardIsAbove = (l : Lent) → Accepted l → (t j : ℕ) → t < Lent.T l → j < S l → T (le (value (modelOf l) t j) (alpha (modelOf l) t j))
+
+-- and without an end state so is the answer. With one, forward adds the end table and Viterbi does not, so that forward's may be below.
+abbrev pub LikelihoodIsAbove : Type 0
+LikelihoodIsAbove =
+    (l : Lent) → Accepted l → 0 < Lent.T l → l .shape .ends ≡ false → T (le (bestValue (modelOf l) (Lent.T l)) (forwardValue (modelOf l) (Lent.T l)))
