@@ -1,9 +1,9 @@
 // The examples of the kernels and the leaves: K1, K2, S1 and S2.
 use crate::print::answer;
-use crate::print::text;
 use answer::Answer;
 use order::minus_infinity;
 use probs::LogProb;
+use program_io::lines::text;
 
 // A line with one answer.
 fn line(label: &[u8], a: Answer) {

@@ -1,7 +1,7 @@
 // The example of a training pass: Z4.
 use crate::print::answer;
-use crate::print::text;
 use model::Shape;
+use program_io::lines::text;
 
 // Z4: model Z, one sample, no end state. The state is never left, so that there is nothing to divide by.
 pub fn no_mass() {

@@ -1,11 +1,11 @@
 // The examples of `viterbi`: P1 to P6, Z1 and Z3.
 use crate::print::answer;
 use crate::print::states;
-use crate::print::text;
 use answer::Answer;
 use answer::is_done;
 use model::Shape;
 use order::minus_infinity;
+use program_io::lines::text;
 use viterbi::viterbi;
 
 // The path's n states where the call is done, and the end of the line.

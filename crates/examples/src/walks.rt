@@ -1,7 +1,7 @@
 // The examples of `forward` and `backward`: Z2.
 use crate::print::answer;
-use crate::print::text;
 use model::Shape;
+use program_io::lines::text;
 
 // Z2: model Z, one sample, both ways.
 pub fn one_sample() {

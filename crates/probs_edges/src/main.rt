@@ -2,12 +2,12 @@
 // first lines give the values, each as its number and its bits. A line after them is a call, the numbers of its arguments, the number of
 // its refusal, the table and place that it names, and the bits of its value. The file stdout beside src/ has what the rules make of each.
 use answer::Answer;
-use answer::number;
-use order::is_number;
 use order::minus_infinity;
 use probs::LogProb;
 use probs::PHREDProb;
 use probs::Prob;
+use program_io::lines;
+use program_io::lines::text;
 ghost use Prim.Native.Nat.{_≤_};
 ghost use lib.ListN.{length};
 
@@ -33,32 +33,20 @@ fn edges() -> [f64; 16] {
     ]
 }
 
-fn text(s: &[u8]) {
-    io::write_all(1, s);
-}
-
 fn count(n: usize) {
     text(b" ");
-    io::print_decimal(1, n as u64);
+    lines::count(n as u64);
 }
 
-// The bits of x as 16 hexadecimal digits, and a NaN by its name.
 fn bits(x: f64) {
     text(b" ");
-    if is_number(x) {
-        io::print_hex(1, f64::to_bits(x), 16);
-    } else {
-        text(b"nan");
-    }
+    lines::bits(x);
 }
 
 // The end of a line.
 fn answer(a: Answer) {
-    let refusal = a.refusal;
-    count(number(refusal) as usize);
-    count(a.table as usize);
-    count(a.place);
-    bits(a.value);
+    text(b" ");
+    lines::answer(a);
     text(b"\n");
 }
 

@@ -21,3 +21,10 @@ pub record Answers (promise : Answer → Type 0) (r : WasnugramAnswer) : Type 0 
   pub answer : Answer
   pub promised : promise answer
   pub flat : r ≡ flattened answer
+
+-- where one result meets the promise of a call, memory and all, one result meets that of its export
+abbrev pub FaceIsUnique : Type 1
+FaceIsUnique =
+    (Memory : Type 0) (promise : Memory → Answer → Type 0)
+    → ((a b : Answer) (e f : Memory) → promise e a → promise f b → (a ≡ b) × (e ≡ f))
+    → (r s : WasnugramAnswer) (e f : Memory) → Answers (promise e) r → Answers (promise f) s → (r ≡ s) × (e ≡ f)

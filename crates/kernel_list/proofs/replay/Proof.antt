@@ -13,26 +13,26 @@ abbrev μ-loop : tie.MeasureT-loop
 loop-holds : tie.Need-loop-holds Inv-loop μ-loop
 loop-holds c = search needs
 
-slice-aggregate-read-full : tie.Need-slice-aggregate-read-full Inv-loop μ-loop
-slice-aggregate-read-full c = search needs
+slice-aggregate-read-words : tie.Need-slice-aggregate-read-words Inv-loop μ-loop
+slice-aggregate-read-words c = search needs
 
-read-full-requires : tie.Need-read-full-requires Inv-loop μ-loop
-read-full-requires c κs = search needs
+read-words-requires : tie.Need-read-words-requires Inv-loop μ-loop
+read-words-requires c κs = search needs
 
 returns : tie.Need-returns Inv-loop μ-loop
 returns c = search needs
 
-word-requires : tie.Need-word-requires Inv-loop μ-loop
-word-requires c κs = search needs
+array-read-counted : tie.Need-array-read-counted Inv-loop μ-loop
+array-read-counted c = search needs
 
-word-requires-2 : tie.Need-word-requires-2 Inv-loop μ-loop
-word-requires-2 c κs = search needs
+array-read-number : tie.Need-array-read-number Inv-loop μ-loop
+array-read-number c = search needs
 
-magnitude-requires : tie.Need-magnitude-requires Inv-loop μ-loop
-magnitude-requires c κs = search needs
+number-requires : tie.Need-number-requires Inv-loop μ-loop
+number-requires c κs = search needs
 
-word-requires-3 : tie.Need-word-requires-3 Inv-loop μ-loop
-word-requires-3 c κs = search needs
+array-read-counted-2 : tie.Need-array-read-counted-2 Inv-loop μ-loop
+array-read-counted-2 c = search needs
 
 counted-requires : tie.Need-counted-requires Inv-loop μ-loop
 counted-requires c κs = search needs
@@ -56,13 +56,13 @@ replay-spec =
     Inv-loop
     μ-loop
     loop-holds
-    slice-aggregate-read-full
-    read-full-requires
+    slice-aggregate-read-words
+    read-words-requires
     returns
-    word-requires
-    word-requires-2
-    magnitude-requires
-    word-requires-3
+    array-read-counted
+    array-read-number
+    number-requires
+    array-read-counted-2
     counted-requires
     add-turns
     loop-less

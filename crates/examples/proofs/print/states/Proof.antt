@@ -26,8 +26,8 @@ shared-slice-read-wide c = search needs
 wide-requires : tie.Need-wide-requires Inv-loop μ-loop
 wide-requires c κs = search needs
 
-print-decimal-requires : tie.Need-print-decimal-requires Inv-loop μ-loop
-print-decimal-requires c κs = search needs
+count-requires : tie.Need-count-requires Inv-loop μ-loop
+count-requires c κs = search needs
 
 add-t : tie.Need-add-t Inv-loop μ-loop
 add-t c = search needs
@@ -52,7 +52,7 @@ states-spec =
     text-requires
     shared-slice-read-wide
     wide-requires
-    print-decimal-requires
+    count-requires
     add-t
     loop-less
     loop-again

@@ -1,15 +1,9 @@
--- `probs_edges::bits` is safe: the bits are asked of a number alone. Assumes nothing.
-use borrow.Author.Needs.{needs}
+-- `program_io::lines::bits` is safe: the bits are asked of a number alone. Assumes nothing.
 use mathlib.Core.Path.{sym, _∙_, subst}
 use lib.Dec.{T}
-use Rattle.probs_edges.proofs.bits.Statement.{statement}
-use Rattle.probs_edges.proofs.bits.Tie as tie
-
-slice-aggregate-text : tie.Need-slice-aggregate-text
-slice-aggregate-text c = search needs
-
-text-requires : tie.Need-text-requires
-text-requires c κs = search needs
+use borrow.Author.Needs.{needs}
+use Rattle.program_io.proofs.lines.bits.Statement.{statement}
+use Rattle.program_io.proofs.lines.bits.Tie as tie
 
 is-number-requires : tie.Need-is-number-requires
 is-number-requires c κs = search needs
@@ -20,11 +14,11 @@ float-to-bits-print-hex c = subst T (sym (sym (c .before .is-number .ensures) �
 print-hex-requires : tie.Need-print-hex-requires
 print-hex-requires c κs = search needs
 
-slice-aggregate-text-2 : tie.Need-slice-aggregate-text-2
-slice-aggregate-text-2 c = search needs
+slice-aggregate-text : tie.Need-slice-aggregate-text
+slice-aggregate-text c = search needs
 
-text-requires-2 : tie.Need-text-requires-2
-text-requires-2 c κs = search needs
+text-requires : tie.Need-text-requires
+text-requires c κs = search needs
 
 returns : tie.Need-returns
 returns c = search needs
@@ -36,12 +30,10 @@ pub bits-spec : {M : Type 1} → statement M
 bits-spec =
     tie.close
     (tie.spec
-    slice-aggregate-text
-    text-requires
     is-number-requires
     float-to-bits-print-hex
     print-hex-requires
-    slice-aggregate-text-2
-    text-requires-2
+    slice-aggregate-text
+    text-requires
     returns
     returns-2)
