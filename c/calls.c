@@ -60,6 +60,35 @@ static int viterbi(void) {
     return wrong;
 }
 
+/* Null with length 0: as tables they are too short (5), as outputs that need nothing they are fine, and else too short (6). */
+static int nothing_lent(void) {
+    wasnugram_shape shape = { 2, 2, 0 };
+    wasnugram_answer a;
+    int wrong = 0;
+    a = wasnugram_viterbi(shape, 0, 0, 0, 0, 0, 0, 0, 0, 0, 0, 0, 0, 0, 0, 0, 0);
+    wrong += !is(a, 5, 0, 0, MINUS_INFINITY);
+    a = wasnugram_viterbi(shape, TRANSITION, 4, EMISSION, 4, INITIAL, 2, END, 2, 0, 0, 0, 0, 0, 0, 0, 0);
+    wrong += !is(a, 0, 0, 0, MINUS_INFINITY);
+    a = wasnugram_viterbi(shape, TRANSITION, 4, EMISSION, 4, INITIAL, 2, END, 2, SAMPLES, 3, path, 6, 0, 0, from, 9);
+    wrong += !is(a, 6, 6, 0, MINUS_INFINITY);
+    a = wasnugram_baum_welch(shape, TRANSITION, 4, EMISSION, 4, INITIAL, 2, END, 2, SAMPLES, 3, 0, 0, 0, 0, 0, 0, 0, 0, 0, 0, 0, 0);
+    wrong += !is(a, 6, 5, 0, MINUS_INFINITY);
+    wrong += !is(wasnugram_ln_cumsum_exp(0, 0, 0, 0), 0, 0, 0, MINUS_INFINITY);
+    return wrong;
+}
+
+/* No symbols, and a sample too many. */
+static int sizes(void) {
+    static const uint16_t many[4097];
+    wasnugram_shape none = { 2, 0, 0 };
+    int wrong = 0;
+    fill();
+    wrong += !is(wasnugram_viterbi(none, TRANSITION, 4, 0, 0, INITIAL, 2, END, 2, SAMPLES, 3, path, 6, values, 9, from, 9), 2, 0, 0, MINUS_INFINITY);
+    wrong += !untouched();
+    wrong += !is(decode(2, EMISSION, END, many, 4097, 6), 3, 4, 4097, MINUS_INFINITY) || !untouched();
+    return wrong;
+}
+
 /* Model Z: all zero. One sample makes ln 2 of both walks; no samples are refused by one and answered by the other. */
 static int walks(void) {
     static const double zeros[4] = { 0, 0, 0, 0 };
@@ -135,5 +164,5 @@ static int leaves(void) {
 }
 
 int calls_wrong(void) {
-    return viterbi() + walks() + training() + kernels() + leaves();
+    return viterbi() + nothing_lent() + sizes() + walks() + training() + kernels() + leaves();
 }

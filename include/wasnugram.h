@@ -1,7 +1,8 @@
 /* Wasnugram: a hidden-Markov decoder whose every answer is proved. This header is the manual.
  *
  * Build the archive with `rt staticlib wasnugram` and link target/staticlib/libwasnugram.a. It needs memcpy and memset and nothing
- * else: no heap, no statics, no floating-point environment but round-to-nearest.
+ * else: no heap, no statics, no floating-point environment but round-to-nearest. So a call may run in an interrupt or a thread beside
+ * any other, as long as nothing that one of them writes is lent to the other.
  *
  * Memory. The caller lends everything. A pointer may be null only where its length is 0. An output may not overlap another output
  * or an input; inputs may overlap each other. Nothing is read or written past a length. An output may be longer than needed: its
@@ -18,7 +19,8 @@
  * S is 1 to 64, M 1 to 256. Table number 4 is the samples, T of them, 0 to 4,096, each below M. Outputs are numbered from 5 in
  * argument order.
  *
- * Answers. `refusal` is 0 where the call is done; else nothing that was lent has changed and `value` is minus infinity:
+ * Answers. `refusal` is 0 where the call is done; else nothing that was lent has changed (9 clears scratch) and `value` is minus
+ * infinity:
  *
  *   1  S is 0 or above 64                           place S
  *   2  M is 0 or above 256                          place M

@@ -1,13 +1,8 @@
-//! Says whether the proved library is linked, and which calls it exports, as the build script of `wasnugram` found it.
+//! Says whether the proved library is linked, as the build script of `wasnugram` found it.
 
 fn main() {
     println!("cargo::rustc-check-cfg=cfg(proved)");
-    println!("cargo::rustc-check-cfg=cfg(exports, values(\"viterbi\", \"forward\", \"backward\", \"baum_welch\"))");
-    let Ok(calls) = std::env::var("DEP_WASNUGRAM_CALLS") else {
-        return;
-    };
-    println!("cargo::rustc-cfg=proved");
-    for call in calls.split(',') {
-        println!("cargo::rustc-cfg=exports=\"{call}\"");
+    if std::env::var_os("DEP_WASNUGRAM_PROVED").is_some() {
+        println!("cargo::rustc-cfg=proved");
     }
 }

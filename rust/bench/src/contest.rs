@@ -18,14 +18,14 @@ pub struct Rivals<'a> {
 
 /// Seconds for one run of each rival: the best turn of each, the turns taken one after the other so that what else the
 /// machine does falls on all alike.
-struct Times {
-    plain: f64,
-    bio: Option<f64>,
-    library: Option<f64>,
+pub struct Times {
+    pub plain: f64,
+    pub bio: Option<f64>,
+    pub library: Option<f64>,
 }
 
 impl Rivals<'_> {
-    fn times(mut self) -> Times {
+    pub fn times(mut self) -> Times {
         let mut times = Times {
             plain: f64::INFINITY,
             bio: self.bio.as_ref().map(|_| f64::INFINITY),

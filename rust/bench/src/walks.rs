@@ -1,15 +1,80 @@
 //! The calls on a model.
 
-use crate::contest::{Rival, Rivals};
+use crate::contest::{Rival, Rivals, Times};
 use compare::case::{of_kinds, Case, Kind, Sizes};
 use compare::engine::{self, Engine, REFERENCE};
-use compare::lent::{lend, Call};
+use compare::lent::{lend, Call, Output};
 use compare::random::Random;
 use oracle::Walks;
+use reference::likelihood::{backward_as_written, forward_as_written};
+use reference::Answer;
 use std::hint::black_box;
 
-/// Times one call on a random model without an end state whose rows are distributions.
-pub fn contest(call: Call, states: usize, samples: usize) {
+/// The reference with the exp that is a loop as the rules read, for the two calls that have it.
+pub const AS_WRITTEN: Engine = Engine {
+    call: as_written,
+    ..REFERENCE
+};
+
+fn as_written(call: Call, case: &Case, outputs: &mut [Output]) -> Answer {
+    match (call, outputs) {
+        (Call::Forward, [Output::Numbers(values)]) => forward_as_written(&case.model(), &case.samples, values),
+        (Call::Backward, [Output::Numbers(values)]) => backward_as_written(&case.model(), &case.samples, values),
+        _ => unreachable!("forward and backward are timed so"),
+    }
+}
+
+/// Times one call against plain Rust, and prints a line.
+pub fn contest(plain: Engine, call: Call, states: usize, samples: usize) {
+    let case = case(states, samples);
+    let wide = case.wide_samples();
+    let model = oracle::modes().and_then(|modes| (modes.published.model)(&case.model()));
+    let rivals = Rivals {
+        plain: on_lent_memory(plain, call, &case),
+        bio: model.as_ref().map(|model| bio(call, model.as_ref(), &wide)),
+        library: engine::library().map(|library| on_lent_memory(library, call, &case)),
+    };
+    rivals.print(&format!("{} S {states} T {samples}", call.name()), 1);
+}
+
+/// Times forward at each number of states, and prints what a term of a sum costs, of which a cell has one for each state:
+/// as a ratio to that at the last number, for plain Rust and for the library.
+pub fn cost_of_a_term(states: &[usize], samples: usize) {
+    let times: Vec<Times> = states.iter().map(|states| forward_alone(*states, samples)).collect();
+    let line = |name: &str, time: &dyn Fn(&Times) -> Option<f64>| {
+        let costs = states
+            .iter()
+            .zip(&times)
+            .map(|(states, times)| Some(time(times)? / (states * states) as f64));
+        if let Some(costs) = costs.collect::<Option<Vec<f64>>>() {
+            let ratios = costs
+                .iter()
+                .map(|cost| format!(" {:>6.2}", cost / costs[costs.len() - 1]));
+            println!("{name:<28}{}", ratios.collect::<String>());
+        }
+    };
+    let heading = states.iter().map(|states| format!(" {:>6}", format!("S {states}")));
+    println!(
+        "\n{:<28}{}",
+        format!("a term of forward, T {samples}"),
+        heading.collect::<String>()
+    );
+    line("plain Rust", &|times| Some(times.plain));
+    line("library", &|times| times.library);
+}
+
+fn forward_alone(states: usize, samples: usize) -> Times {
+    let case = case(states, samples);
+    let rivals = Rivals {
+        plain: on_lent_memory(REFERENCE, Call::Forward, &case),
+        bio: None,
+        library: engine::library().map(|library| on_lent_memory(library, Call::Forward, &case)),
+    };
+    rivals.times()
+}
+
+/// A random model without an end state whose rows are distributions.
+fn case(states: usize, samples: usize) -> Case {
     let sizes = Sizes {
         states,
         symbols: 64,
@@ -18,16 +83,7 @@ pub fn contest(call: Call, states: usize, samples: usize) {
     let mut case = of_kinds(sizes, [Kind::Normalised; 4], &mut Random::new(1));
     case.shape.ends = false;
     case.end.fill(0.0);
-    let wide = case.wide_samples();
-    let model = oracle::modes().and_then(|modes| (modes.published.model)(&case.model()));
-    let rivals = Rivals {
-        plain: on_lent_memory(REFERENCE, call, &case),
-        bio: model.as_ref().map(|model| bio(call, model.as_ref(), &wide)),
-        library: engine::library()
-            .filter(|library| library.answers(call))
-            .map(|library| on_lent_memory(library, call, &case)),
-    };
-    rivals.print(&format!("{} S {states} T {samples}", call.name()), 1);
+    case
 }
 
 fn on_lent_memory(engine: Engine, call: Call, case: &Case) -> Rival<'_> {

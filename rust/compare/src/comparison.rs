@@ -72,14 +72,9 @@ impl Comparison {
             }
         }
         match self.library {
-            Some(library) => println!("proved library: linked, with {:?} and the leaves", library.calls),
+            Some(_) => println!("proved library: linked"),
             None => println!("proved library: not built (rt staticlib wasnugram); not compared"),
         }
-    }
-
-    /// The library, where it exports this call.
-    fn answering(&self, call: Call) -> Option<Engine> {
-        self.library.filter(|library| library.answers(call))
     }
 
     /// Adds a verdict on a case, and prints the first wrong one of its row, with the smallest case that shows it. Gives
@@ -120,7 +115,7 @@ impl Comparison {
             let row = format!("{}: reference, its lent memory", call.name());
             let refusal = self.add(&row, case, &|case| likeness::memory(call, case, None, outputs(case)));
             self.tally.answered(call.name(), refusal);
-            if let Some(library) = self.answering(call) {
+            if let Some(library) = self.library {
                 let row = format!("{}: library, reference", call.name());
                 self.add(&row, case, &|case| {
                     likeness::library(&library, call, case, outputs(case))
@@ -151,7 +146,7 @@ impl Comparison {
             let sizes = Sizes::sweep(number, amount.work, &mut self.random);
             let case = case::any(sizes, &mut self.random);
             self.viterbi(&case);
-            if let Some(library) = self.answering(Call::Viterbi) {
+            if let Some(library) = self.library {
                 let row = "viterbi: library, reference";
                 let outputs = |case: &Case| lend(Call::Viterbi, case, &mut Random::new(0));
                 self.add(row, &case, &|case| {
@@ -221,7 +216,7 @@ impl Comparison {
             self.tally.answered(call.name(), verdict.refusal);
             let row = format!("{}: reference, refused for its damage", call.name());
             self.plain(&row, &verdict, || format!("{:?}", damaged.case));
-            if let Some(library) = self.answering(call) {
+            if let Some(library) = self.library {
                 let verdict = likeness::library(&library, call, &damaged.case, outputs);
                 let row = format!("{}: library, reference, damaged", call.name());
                 self.plain(&row, &verdict, || format!("{:?}", damaged.case));

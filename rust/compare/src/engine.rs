@@ -4,14 +4,12 @@
 mod proved;
 
 use crate::case::Case;
-use crate::lent::{Call, Output, CALLS};
+use crate::lent::{Call, Output};
 use reference::{leaves, Answer, Estimates};
 
 /// Something that answers calls.
 #[derive(Clone, Copy)]
 pub struct Engine {
-    /// The calls on a model that it answers.
-    pub calls: &'static [Call],
     /// A call on a model, on lent memory.
     pub call: fn(Call, &Case, &mut [Output]) -> Answer,
     pub leaves: Leaves,
@@ -36,7 +34,6 @@ pub struct Leaves {
 
 /// The independent reference.
 pub const REFERENCE: Engine = Engine {
-    calls: &CALLS,
     call: reference_call,
     leaves: Leaves {
         exp: leaves::exp,
@@ -49,12 +46,6 @@ pub const REFERENCE: Engine = Engine {
         ln_cumsum_exp: leaves::ln_cumsum_exp,
     },
 };
-
-impl Engine {
-    pub fn answers(&self, call: Call) -> bool {
-        self.calls.contains(&call)
-    }
-}
 
 /// The proved library; none where it is not linked.
 #[cfg(proved)]

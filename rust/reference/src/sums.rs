@@ -4,6 +4,11 @@ use crate::kernels::{exp, ln, ln_1m_exp};
 
 /// The logarithm of the sum: the first greatest entry p, and ln(1 + sum of exp(x - p) over the others) added to it.
 pub fn ln_sum_exp(xs: &[f64]) -> f64 {
+    ln_sum_exp_by(exp, xs)
+}
+
+/// The same by an exp that the caller chooses: the benchmarks time two shapes of it.
+pub fn ln_sum_exp_by(exp: impl Fn(f64) -> f64, xs: &[f64]) -> f64 {
     let Some(place) = first_greatest(xs) else {
         return f64::NEG_INFINITY;
     };
@@ -11,8 +16,8 @@ pub fn ln_sum_exp(xs: &[f64]) -> f64 {
     if greatest.is_infinite() {
         return greatest;
     }
-    let sum = sum_of_ratios(&xs[..place], greatest, 0.0);
-    let sum = sum_of_ratios(&xs[place + 1..], greatest, sum);
+    let sum = sum_of_ratios(&exp, &xs[..place], greatest, 0.0);
+    let sum = sum_of_ratios(&exp, &xs[place + 1..], greatest, sum);
     greatest + ln(1.0 + sum)
 }
 
@@ -28,7 +33,7 @@ fn first_greatest(xs: &[f64]) -> Option<usize> {
 }
 
 /// The sum so far and exp(x - greatest) for each entry that is not minus infinity, upward.
-fn sum_of_ratios(xs: &[f64], greatest: f64, so_far: f64) -> f64 {
+fn sum_of_ratios(exp: impl Fn(f64) -> f64, xs: &[f64], greatest: f64, so_far: f64) -> f64 {
     let mut sum = so_far;
     for x in xs {
         if *x != f64::NEG_INFINITY {

@@ -1,6 +1,7 @@
 //! One pass of Baum-Welch.
 
 use crate::answer::{Answer, NO_MASS};
+use crate::kernels::exp;
 use crate::likelihood::{backward_unchecked, forward_unchecked};
 use crate::model::{check, Empty, Model, Output};
 use crate::sums::{ln_add_exp, ln_sub_exp, ln_sum_exp};
@@ -65,8 +66,8 @@ pub fn baum_welch(model: &Model, samples: &[u16], new: &mut Estimates) -> Answer
 /// The pass alone, for a model that the checks let pass and outputs that are long enough.
 pub fn baum_welch_unchecked(model: &Model, samples: &[u16], new: &mut Estimates) -> Answer {
     let cells = model.shape.cells(samples.len());
-    forward_unchecked(model, samples, &mut new.alpha[..cells]);
-    backward_unchecked(model, samples, &mut new.beta[..cells]);
+    forward_unchecked(exp, model, samples, &mut new.alpha[..cells]);
+    backward_unchecked(exp, model, samples, &mut new.beta[..cells]);
     let mut pass = Pass {
         model,
         samples,

@@ -1,24 +1,12 @@
 //! The proved library, by its raw calls.
 
-#[cfg(exports = "baum_welch")]
-use super::estimates;
-use super::{Engine, Leaves};
+use super::{estimates, Engine, Leaves};
 use crate::case::Case;
 use crate::lent::{Call, Output};
 use reference::Answer;
 use wasnugram::raw;
 
 pub const LIBRARY: Engine = Engine {
-    calls: &[
-        #[cfg(exports = "viterbi")]
-        Call::Viterbi,
-        #[cfg(exports = "forward")]
-        Call::Forward,
-        #[cfg(exports = "backward")]
-        Call::Backward,
-        #[cfg(exports = "baum_welch")]
-        Call::BaumWelch,
-    ],
     call,
     leaves: Leaves {
         exp: |d| answer(raw::exp(d)),
@@ -44,17 +32,13 @@ fn answer(given: raw::Answer) -> Answer {
 fn call(call: Call, case: &Case, outputs: &mut [Output]) -> Answer {
     let model = model(case);
     answer(match (call, outputs) {
-        #[cfg(exports = "viterbi")]
         (Call::Viterbi, [Output::Bytes(path), Output::Numbers(values), Output::Bytes(from)]) => {
             raw::viterbi(&model, &case.samples, path, values, from)
         }
-        #[cfg(exports = "forward")]
         (Call::Forward, [Output::Numbers(values)]) => raw::forward(&model, &case.samples, values),
-        #[cfg(exports = "backward")]
         (Call::Backward, [Output::Numbers(values)]) => raw::backward(&model, &case.samples, values),
-        #[cfg(exports = "baum_welch")]
         (Call::BaumWelch, outputs) => raw::baum_welch(&model, &case.samples, &mut lent(outputs)),
-        _ => unreachable!("each call that is exported is lent its own outputs"),
+        _ => unreachable!("each call is lent its own outputs"),
     })
 }
 
@@ -72,7 +56,6 @@ fn model(case: &Case) -> wasnugram::Model<'_> {
     }
 }
 
-#[cfg(exports = "baum_welch")]
 fn lent(outputs: &mut [Output]) -> wasnugram::Estimates<'_> {
     let new = estimates(outputs);
     wasnugram::Estimates {
