@@ -45,17 +45,35 @@ const ALL: [Refusal; 11] = [
 
 impl Refusal {
     /// The number of the rules, from 1.
+    ///
+    /// ```
+    /// assert_eq!(wasnugram::Refusal::NotGood.number(), 7);
+    /// ```
     pub fn number(self) -> u8 {
         self as u8 + 1
     }
 
     /// The refusal with this number; none for 0, which is done, and for numbers that no rule has.
+    ///
+    /// ```
+    /// use wasnugram::Refusal;
+    ///
+    /// assert_eq!(Refusal::from_number(8), Some(Refusal::Sample));
+    /// assert_eq!(Refusal::from_number(0), None);
+    /// ```
     pub fn from_number(number: u8) -> Option<Refusal> {
         ALL.into_iter().find(|refusal| refusal.number() == number)
     }
 }
 
 /// A refusal with the number of the table it speaks of and the place in it, each 0 where none is named.
+///
+/// ```
+/// use wasnugram::{Refusal, Refused};
+///
+/// let refused = Refused { refusal: Refusal::NotGood, table: 1, place: 1151 };
+/// assert_eq!(refused.to_string(), "refusal 7 (NotGood) in table 1 at 1151");
+/// ```
 #[derive(Clone, Copy, Debug, PartialEq, Eq)]
 pub struct Refused {
     pub refusal: Refusal,

@@ -1,0 +1,79 @@
+//! One passage decoded: the lent memory, the row of states, and the fares that follow from it.
+
+use crate::model::Tables;
+use crate::recording::LONGEST;
+use crate::states::{Fare, ALL, STATES};
+use wasnugram::{viterbi, Refused};
+
+/// What a gate lends to the decoder, made once for its longest passage.
+#[derive(Clone, PartialEq)]
+pub struct Lent {
+    pub path: Vec<u8>,
+    pub values: Vec<f64>,
+    pub from: Vec<u8>,
+}
+
+impl Lent {
+    /// Every place holds this byte, or its number.
+    pub fn filled(with: u8) -> Lent {
+        Lent {
+            path: vec![with; LONGEST],
+            values: vec![f64::from(with); LONGEST * STATES],
+            from: vec![with; LONGEST * STATES],
+        }
+    }
+}
+
+pub struct Decoded {
+    pub row: Vec<u8>,
+    pub value: f64,
+}
+
+/// The row of states that explains the samples best, and its value.
+pub fn decode(tables: &Tables, samples: &[u16], lent: &mut Lent) -> Result<Decoded, Refused> {
+    let value = viterbi(
+        &tables.lend(),
+        samples,
+        &mut lent.path,
+        &mut lent.values,
+        &mut lent.from,
+    )?;
+    Ok(Decoded {
+        row: lent.path[..samples.len()].to_vec(),
+        value,
+    })
+}
+
+/// A stretch of one state in a row of states.
+#[derive(Debug, PartialEq, Eq)]
+pub struct Run {
+    pub state: usize,
+    pub length: usize,
+}
+
+pub fn runs(row: &[u8]) -> Vec<Run> {
+    row.chunk_by(|a, b| a == b)
+        .map(|run| Run {
+            state: usize::from(run[0]),
+            length: run.len(),
+        })
+        .collect()
+}
+
+/// Every unbroken run of a body pays that body's fare, once.
+pub fn fares(row: &[u8]) -> Vec<Fare> {
+    runs(row).iter().filter_map(|run| ALL[run.state].fare).collect()
+}
+
+#[cfg(test)]
+mod tests {
+    use super::*;
+
+    #[test]
+    fn each_body_pays_once() {
+        let row = [0, 3, 4, 4, 4, 3, 4, 4, 0, 11, 11, 0];
+        assert_eq!(fares(&row), [Fare::Adult, Fare::Adult]);
+        assert_eq!(fares(&[0, 0, 11]), []);
+        assert_eq!(runs(&[]), []);
+    }
+}

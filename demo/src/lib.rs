@@ -1,0 +1,17 @@
+//! A morning at a gate, decoded by the proved library: a model of twelve states, a simulated recording, what is
+//! printed, and a picture of it.
+
+#![forbid(unsafe_code)]
+
+pub mod decode;
+pub mod figures;
+pub mod flip;
+pub mod model;
+pub mod morning;
+pub mod picture;
+pub mod random;
+pub mod recording;
+pub mod report;
+pub mod simulation;
+pub mod states;
+pub mod words;

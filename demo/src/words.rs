@@ -1,0 +1,93 @@
+//! The words that the printed report and the picture share.
+
+use crate::decode::runs;
+use crate::flip::{Flip, Outcome};
+use crate::model::{columns, EMISSION, NAMES, TRANSITION};
+use crate::states::{Fare, ALL, BARRIERS};
+
+/// A row of states in run lengths.
+pub fn row(row: &[u8]) -> String {
+    let runs = runs(row);
+    let words = runs.iter().map(|run| format!("{}×{}", ALL[run.state].name, run.length));
+    words.collect::<Vec<String>>().join(" ")
+}
+
+pub fn fares(fares: &[Fare]) -> String {
+    if fares.is_empty() {
+        return "none".to_string();
+    }
+    let names: Vec<&str> = fares.iter().map(|fare| fare.name()).collect();
+    names.join(" + ")
+}
+
+/// A whole number with a comma before every three digits.
+pub fn grouped(number: usize) -> String {
+    if number < 1000 {
+        return number.to_string();
+    }
+    format!("{},{:03}", grouped(number / 1000), number % 1000)
+}
+
+/// The row and the column of a place in a table of the model.
+pub fn place(table: usize, place: usize) -> String {
+    let (row, column) = (place / columns(table), place % columns(table));
+    match table {
+        EMISSION => format!("row {row} ({}), column {column} ({column:0BARRIERS$b})", ALL[row].name),
+        TRANSITION => format!("row {row} ({}), column {column} ({})", ALL[row].name, ALL[column].name),
+        _ => format!("column {column} ({})", ALL[column].name),
+    }
+}
+
+pub fn flip(flip: Flip) -> String {
+    format!(
+        "bit {} of {}, {}",
+        flip.bit,
+        NAMES[flip.table],
+        place(flip.table, flip.place)
+    )
+}
+
+pub fn answer(outcome: &Outcome) -> String {
+    let Some(refused) = outcome.refused else {
+        return "decoded".to_string();
+    };
+    let (number, table) = (refused.refusal.number(), usize::from(refused.table));
+    let place = place(table, refused.place);
+    format!(
+        "refusal {number}, table {table} ({}), place {}: {place}",
+        NAMES[table], refused.place
+    )
+}
+
+pub fn memory(outcome: &Outcome) -> &'static str {
+    if outcome.untouched {
+        "nothing was decoded: no byte that was lent has changed"
+    } else {
+        "lent bytes have changed"
+    }
+}
+
+#[cfg(test)]
+mod tests {
+    use super::*;
+
+    #[test]
+    fn numbers_are_grouped_by_three() {
+        assert_eq!(grouped(999), "999");
+        assert_eq!(grouped(207360), "207,360");
+        assert_eq!(grouped(1_002_003), "1,002,003");
+    }
+
+    #[test]
+    fn places_have_a_row_and_a_column() {
+        assert_eq!(place(0, 13), "row 1 (child-step), column 1 (child-step)");
+        assert_eq!(place(1, 1151), "row 4 (adult), column 127 (01111111)");
+        assert_eq!(place(2, 11), "column 11 (dog)");
+    }
+
+    #[test]
+    fn fares_are_joined() {
+        assert_eq!(fares(&[Fare::Adult, Fare::Child]), "adult + child");
+        assert_eq!(fares(&[]), "none");
+    }
+}
