@@ -1,4 +1,4 @@
--- Laws of a list of tests: which part of a list answers, and what is known once none finds fault. Assumes nothing.
+-- Laws of a list of tests: which part of a list answers, and what is known once none finds fault.
 use Prim.Native.Nat.{ℕ, _<_}
 use mathlib.Core.Path.{_≡_, refl, sym, ap, _∙_}
 use mathlib.Core.Bool.{Bool, true, false, cond, not}
@@ -7,7 +7,7 @@ use native.Mathlib.Omega.{arith}
 use lib.Dec.{T, ltb, ltb→lt}
 use lib.Ieee.{Float}
 use borrow.Author.Tests.{eqb-true, not-true, not-false}
-use Rattle.order.specs.Float.{minusInfinity}
+use Rattle.floats.specs.Float.{minusInfinity}
 use Rattle.answer.specs.declared.Answer.{Answer}
 use Rattle.answer.specs.Answer.{numberOf, isDone, done}
 use Rattle.answer.specs.Checks.{Tests, firstOf}
@@ -16,6 +16,10 @@ use Rattle.answer.specs.Checks.{Tests, firstOf}
 abbrev pub Refuses : Tests → Type 0
 Refuses [] = Unit
 Refuses (t ∷ ts) = T (ltb 0 (numberOf (t .1 .refusal))) × Refuses ts
+
+pub refuse-both : (a b : Tests) → Refuses a → Refuses b → Refuses (a ++ b)
+refuse-both [] b r q = q
+refuse-both (t ∷ a) b r q = (r .0, refuse-both a b (r .1) q)
 
 -- no test of the list finds fault
 unfoldable pub Clear : Tests → Type 0
@@ -47,6 +51,16 @@ pub clear-both : (a b : Tests) → Clear a → Clear b → Clear (a ++ b)
 unfolding Clear
 clear-both [] b c d = d
 clear-both (t ∷ a) b c d = (c .0, clear-both a b (c .1) d)
+
+pub clear-left : (a b : Tests) → Clear (a ++ b) → Clear a
+unfolding Clear
+clear-left [] b c = tt
+clear-left (t ∷ a) b c = (c .0, clear-left a b (c .1))
+
+pub clear-right : (a b : Tests) → Clear (a ++ b) → Clear b
+unfolding Clear
+clear-right [] b c = c
+clear-right (t ∷ a) b c = clear-right a b (c .1)
 
 -- the first test of a list: it answers where it finds fault, and the rest where it finds none
 pub finds : (b : Bool) (a : Answer) (ts : Tests) (r : Answer) → b ≡ true → r ≡ a → r ≡ firstOf ((b, a) ∷ ts)

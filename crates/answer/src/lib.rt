@@ -1,11 +1,11 @@
 // The answer of every public call: which refusal, which table, the place in it, and a value. What goes in is the case; what comes
 // out is made in one place, so that a field added to the answer is one edit.
-use order::minus_infinity;
+use floats::minus_infinity;
 ghost use mathlib.Core.Path.{_≡_};
 ghost use Rattle.answer.specs.Answer as Spec;
 ghost use Rattle.answer.specs.Answer.{numberOf, refuse};
 
-// Why a call was refused, in the order of document 01's numbers.
+// Why a call was refused, in the order of the numbers (RULES 3.2).
 pub enum Refusal {
     // 0: not refused.
     Done,
@@ -41,7 +41,7 @@ pub struct Answer {
     pub value: f64,
 }
 
-// Document 01's number of a refusal.
+// The number of a refusal (RULES 3.2).
 pub fn number(refusal: Refusal) -> u8
     ensures { λ r. ⌜ r ≡ numberOf refusal ⌝ }
 {

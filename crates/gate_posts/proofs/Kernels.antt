@@ -1,4 +1,4 @@
--- K1 and K2: what exp and ln are at the examples' arguments. Assumes nothing.
+-- K1 and K2: what exp and ln are at the examples' arguments.
 use mathlib.Core.Path.{_≡_, refl, sym, ap, _∙_}
 use mathlib.Core.Bool.{true, false}
 use lib.IntN.{negsuc}

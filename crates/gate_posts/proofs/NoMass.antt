@@ -1,27 +1,28 @@
--- Z4: after one sample without an end state nothing is left of state 0. Assumes nothing.
+-- Z4: after one sample without an end state nothing is left of state 0.
 use Prim.Native.Nat.{_<_}
 use native.Mathlib.Omega.{arith}
 use mathlib.Core.Path.{_≡_, sym, ap, _∙_}
 use mathlib.Core.Bool.{true, false}
 use mathlib.Core.List.{[], _∷_}
 use lib.Ieee.{Float, add, sub, neg, sum, round, size, lt, eq}
-use Rattle.order.specs.Float.{_⊕_, _⊖_, nought, one, minusInfinity, isMinusInfinity}
+use Rattle.floats.specs.Float.{_⊕_, _⊖_, nought, one, minusInfinity, isMinusInfinity, isInfinite}
 use Rattle.answer.specs.Answer.{refuse}
 use Rattle.answer.specs.declared.Refusal.the-variants.{ZeroMass}
 use Rattle.kernels.specs.Ln.{ln2, lnOf}
 use Rattle.kernels.proofs.LnLaws.{ln-one}
 use Rattle.kernels.proofs.LnParts.{ln2-is}
-use Rattle.probs.specs.Sum.{isInfinite, raised, peak, plusExp, expSum, closed, lnSum}
+use Rattle.probs.specs.Sum.{raised, peak, plusExp, expSum, grown, lnSum}
 use Rattle.probs.specs.Pair.{relativeEq, lnSub}
 use Rattle.model.specs.Lent.{Lent}
 use Rattle.model.specs.Model.{modelOf}
 use Rattle.likelihood.specs.Walk.{alpha, beta}
-use Rattle.training.specs.First.{first}
-use Rattle.training.specs.Pass.{walks, probx, occupancy, gamma, denominator, massless}
-use Rattle.training.specs.Call.{massCheck, massAnswer}
-use Rattle.training.proofs.Outcome.{probx-is}
-use Rattle.training.proofs.First.{first-stop, first-none}
-use Rattle.training.proofs.Mass.{hollow, mass-state}
+use Rattle.lists.specs.First.{first}
+use Rattle.occupancy.specs.Occupancy.{occupancy, gamma, denominator, massless}
+use Rattle.baum_welch.specs.Pass.{walks, probx}
+use Rattle.baum_welch.specs.Call.{massCheck, massAnswer}
+use Rattle.baum_welch.proofs.Walks.{probx-is}
+use Rattle.lists.proofs.First.{first-stop, first-none}
+use Rattle.baum_welch.proofs.ZeroMass.{hollow, mass-state}
 use Rattle.gate_posts.specs.Models.{modelZ}
 use Rattle.gate_posts.proofs.OneSample.{forward-value}
 
@@ -56,7 +57,7 @@ unfolding share isInfinite eq add sub neg sum round size
 bounded = rw ln2-is
 
 gamma-is : gamma (walks (modelOf z) 1) 0 ≡ share
-unfolding gamma lnSum closed peak raised expSum plusExp
+unfolding gamma lnSum grown peak raised expSum plusExp
 gamma-is = rw (occupied, above, bounded, log-one) alone
 
 -- gamma is the last occupancy, and nothing is left
@@ -84,9 +85,10 @@ unfolding eq
 ln2-likely = rw ln2-is
 
 mass : massCheck (modelOf z) (walks (modelOf z) 1) ≡ refuse ZeroMass 0 0
+unfolding massCheck
 mass =
-    let some : hollow (modelOf z) (walks (modelOf z) 1) < 2 = rw found (omega arith) in
-    mass-state (modelOf z) (walks (modelOf z) 1) (ap isMinusInfinity probx-is-ln2 ∙ ln2-likely) some ∙ ap (refuse ZeroMass 0) found
+    let some : hollow 2 false (walks (modelOf z) 1) < 2 = rw found (omega arith) in
+    mass-state 2 false (walks (modelOf z) 1) (ap isMinusInfinity probx-is-ln2 ∙ ln2-likely) some ∙ ap (refuse ZeroMass 0) found
 
 pub no-mass : massAnswer (modelOf z) (walks (modelOf z) 1) ≡ refuse ZeroMass 0 0
 no-mass = rw mass

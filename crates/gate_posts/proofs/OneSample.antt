@@ -1,15 +1,15 @@
--- Z2: both walks over one sample of model Z sum two zeros. Assumes nothing.
+-- Z2: both walks over one sample of model Z sum two zeros.
 use Prim.Native.Nat.{ℕ, zero, suc, _<_}
 use native.Mathlib.Omega.{arith}
 use mathlib.Core.Path.{_≡_, refl, _∙_}
 use mathlib.Core.List.{[], _∷_}
 use lib.Ieee.{add, sub, neg, sum, round, size, lt, eq}
-use Rattle.order.specs.Float.{_⊕_, _⊖_, nought, one}
+use Rattle.floats.specs.Float.{_⊕_, _⊖_, nought, one, isInfinite}
 use Rattle.kernels.specs.Exp.{expOf}
 use Rattle.kernels.specs.Ln.{ln2, lnOf}
 use Rattle.kernels.proofs.ExpLaws.{exp-zero}
 use Rattle.kernels.proofs.LnParts.{ln2-is}
-use Rattle.probs.specs.Sum.{isInfinite, raised, peak, plusExp, expSum, closed, lnSum}
+use Rattle.probs.specs.Sum.{raised, peak, plusExp, expSum, grown, lnSum}
 use Rattle.probs.proofs.Loops.{lnSum-same}
 use Rattle.model.specs.Model.{modelOf}
 use Rattle.likelihood.specs.Walk.{alpha, forwardValue, beta, backwardValue}
@@ -34,7 +34,7 @@ unfolding add sum round size
 raised-by = rw ln2-is
 
 zeros : lnSum 2 (λ (k : ℕ). nought) ≡ ln2
-unfolding lnSum closed peak raised expSum plusExp isInfinite lt eq
+unfolding lnSum grown peak raised expSum plusExp isInfinite lt eq
 zeros = rw (no-difference, exps, ln-one-and-one) raised-by
 
 -- ---- both walks come to it
@@ -47,7 +47,7 @@ end-terms zero h = refl
 end-terms (suc zero) h = refl
 end-terms (suc (suc k)) h = absurd (none k h)
 
-start-terms : (k : ℕ) → k < 2 → (beta (modelOf (modelZ (0 ∷ []))) 1 0 k ⊕ modelOf (modelZ (0 ∷ [])) .initial k) ⊕ modelOf (modelZ (0 ∷ [])) .emission 0 k ≡ nought
+start-terms : (k : ℕ) → k < 2 → let m = modelOf (modelZ (0 ∷ [])) in (beta m 1 0 k ⊕ m .initial k) ⊕ m .emission 0 k ≡ nought
 unfolding beta add sum round size
 start-terms zero h = refl
 start-terms (suc zero) h = refl

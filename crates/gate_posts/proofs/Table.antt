@@ -1,21 +1,22 @@
--- All gate-post examples hold, those of Viterbi and of the leaves by computation. Assumes nothing.
+-- All gate-post examples hold, those of Viterbi and of the leaves by computation.
 use mathlib.Core.Path.{_≡_, refl, ap}
 use mathlib.Core.Bool.{false}
 use lib.ListN.{drop}
 use lib.Ieee.{ofBits, ofInt, toBits, round, size, add, sum, le, lt, eq, isNan, neg}
-use Rattle.rows.specs.Lists.{firstBad, over}
+use Rattle.lists.specs.Lists.{firstBad, over}
 use Rattle.answer.specs.Answer.{done}
 use Rattle.answer.specs.Checks.{firstOf}
 use Rattle.kernels.proofs.ExpLaws.{exp-zero, exp-minus-infinity}
 use Rattle.kernels.proofs.LnLaws.{ln-one}
-use Rattle.probs.specs.Sum.{isInfinite, raised, peak, closed, lnSum}
+use Rattle.floats.specs.Float.{isInfinite, isPlusZero}
+use Rattle.probs.specs.Sum.{raised, peak, grown, lnSum}
 use Rattle.probs.specs.Pair.{relativeEq, lnSub}
 use Rattle.probs.specs.Calls.{unlessNan}
-use Rattle.model.specs.Good.{good, goodEnd, isPlusZero}
-use Rattle.model.specs.Checks.{sizeTests, outputTests, entryTests, check}
-use Rattle.viterbi.specs.Best.{bestOf, ranksAtLeast, predecessor, greatest}
-use Rattle.viterbi.specs.Walk as Walk
-use Rattle.viterbi.specs.Walk.{cell, pathTo, value, from, lastState, bestPath, bestValue}
+use Rattle.model.specs.Good.{good, goodEnd}
+use Rattle.checks.specs.Checks.{shapeTests, countTests, roomTests, entryTests, sampleTests, testsOf}
+use Rattle.best_path.specs.Best.{bestOf, ranksAtLeast, predecessor, greatest}
+use Rattle.best_path.specs.Walk as Walk
+use Rattle.best_path.specs.Walk.{cell, pathTo, value, from, lastState, bestPath, bestValue}
 use Rattle.gate_posts.specs.Models.{minus, least}
 use Rattle.gate_posts.specs.Table.{Example, Holds, AllHold, answer, path, gatePosts, GatePostsHold}
 use Rattle.gate_posts.proofs.Kernels.{ln-two, ln-half}
@@ -24,10 +25,12 @@ use Rattle.gate_posts.proofs.NoMass.{no-mass}
 
 -- an example whose answer is given, and its path computed
 abbrev holds : (e : Example) → answer (e .call) ≡ e .answers → path (e .call) ≡ e .leaves → Holds e
-holds e a p = record { answered = a; left = p }
+holds e a p = record { answerIs = a; pathIs = p }
 
 pub gate-posts : GatePostsHold
-unfolding gatePosts minus least over check sizeTests outputTests entryTests firstOf firstBad good goodEnd isPlusZero bestOf ranksAtLeast predecessor greatest cell Walk.closed pathTo value from lastState bestPath bestValue unlessNan lnSum closed peak raised isInfinite lnSub relativeEq ofBits ofInt toBits round size add sum le lt eq isNan neg
+unfolding gatePosts minus least over testsOf shapeTests countTests roomTests entryTests sampleTests firstOf firstBad good goodEnd
+    isPlusZero bestOf ranksAtLeast predecessor greatest cell Walk.closed pathTo value from lastState bestPath bestValue unlessNan lnSum
+    grown peak raised isInfinite lnSub relativeEq ofBits ofInt toBits round size add sum le lt eq isNan neg
 gate-posts =
     let sums : AllHold (drop 17 gatePosts) = (holds _ refl refl, (holds _ refl refl, tt)) in
     let logs : AllHold (drop 14 gatePosts) = (holds _ (ap done ln-one) refl, (holds _ (ap done ln-two) refl, (holds _ (ap done ln-half) refl, sums))) in

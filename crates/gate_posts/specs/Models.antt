@@ -1,11 +1,11 @@
--- The two models of document 01's gate-post examples, and the numbers that they are made of.
+-- The two models of the gate-post examples (RULES 9), and the numbers that they are made of.
 use Prim.Native.Nat.{ℕ, zero, suc, _*_}
 use mathlib.Core.Bool.{false}
 use mathlib.Core.List.{List, [], _∷_}
 use lib.IntN.{negsuc}
 use lib.ListN.{replicate}
 use lib.Ieee.{Float, binary64, ofBits, ofInt}
-use Rattle.order.specs.Float.{nought}
+use Rattle.floats.specs.Float.{nought}
 use Rattle.model.specs.declared.Shape.{Shape}
 use Rattle.model.specs.Lent.{Lent, lent}
 
@@ -22,8 +22,7 @@ least = ofBits binary64 1
 abbrev shape : ℕ → Shape
 shape n = record { states = n; symbols = 2; ends = false }
 
--- "Model P: S = M = 2, initial (-1,-2), transition (-1,-2 / -2,-1), emission (-1,-3 / -3,-1), no end", with a for transition 0 and e for
--- emission 3
+-- model P, with a for transition 0 and e for emission 3
 abbrev pub changedP : Float → Float → List ℕ → Lent
 changedP a e samples =
     lent (shape 2) (a ∷ minus 2 ∷ minus 2 ∷ minus 1 ∷ []) (minus 1 ∷ minus 3 ∷ minus 3 ∷ e ∷ []) (minus 1 ∷ minus 2 ∷ []) (replicate 2 nought) samples
@@ -31,7 +30,7 @@ changedP a e samples =
 abbrev pub modelP : List ℕ → Lent
 modelP = changedP (minus 1) (minus 1)
 
--- "Model Z: S = M = 2, all 0", with n states and i for each initial entry
+-- model Z, with n states and i for each initial entry
 abbrev pub changedZ : ℕ → Float → List ℕ → Lent
 changedZ n i samples =
     lent (shape n) (replicate (n * n) nought) (replicate (n * 2) nought) (replicate n i) (replicate n nought) samples

@@ -1,4 +1,4 @@
--- Document 01's fourteen gate-post examples (P1 to P6, Z1 to Z4, K1, K2, S1, S2) as a single table, `gatePosts`, with a single statement,
+-- The fourteen gate-post examples of RULES 9 (P1 to P6, Z1 to Z4, K1, K2, S1, S2) as a single table, `gatePosts`, with a single statement,
 -- `GatePostsHold`: the definitions that the public calls promise give every one of them.
 use Prim.Native.Nat.{ℕ, _*_}
 use mathlib.Core.Path.{_≡_}
@@ -7,9 +7,9 @@ use mathlib.Core.List.{List, [], _∷_}
 use lib.IntN.{pos, negsuc}
 use lib.ListN.{replicate}
 use lib.Ieee.{Float, nan, inf, fin, neg}
-use Rattle.order.specs.Float.{nought, one, minusInfinity}
-use Rattle.rows.specs.Lists.{after}
-use Rattle.answer.specs.Answer.{done, refuse, isDone}
+use Rattle.floats.specs.Float.{nought, one, minusInfinity}
+use Rattle.lists.specs.Lists.{after}
+use Rattle.answer.specs.Answer.{done, refuse, isDone, answered}
 use Rattle.answer.specs.declared.Answer.{Answer}
 use Rattle.answer.specs.declared.Refusal.the-variants.{NotGood, UnknownSymbol, ZeroMass}
 use Rattle.kernels.specs.Calls.{expAnswer, lnAnswer}
@@ -17,11 +17,11 @@ use Rattle.kernels.specs.Ln.{ln2}
 use Rattle.probs.specs.Calls.{lnSumExpAnswer, lnSubExpAnswer}
 use Rattle.model.specs.Lent.{Lent, S, M, T}
 use Rattle.model.specs.Model.{modelOf}
-use Rattle.viterbi.specs.Walk.{bestPath}
+use Rattle.best_path.specs.Walk.{bestPath, bestValue}
 use Rattle.viterbi.specs.Call as Viterbi
 use Rattle.likelihood.specs.Call.{forwardAnswer, backwardAnswer}
-use Rattle.training.specs.Call as Training
-use Rattle.training.specs.Call.{massAnswer}
+use Rattle.baum_welch.specs.Call as BaumWelch
+use Rattle.baum_welch.specs.Call.{massAnswer, walksOf}
 use Rattle.gate_posts.specs.Models.{minus, least, modelP, changedP, modelZ, changedZ}
 
 -- a call, with outputs of exactly the room that it needs
@@ -42,19 +42,19 @@ unwritten l = replicate (T l) 255
 abbrev pub viterbiOutputs : Lent → Viterbi.Outputs
 viterbiOutputs l = Viterbi.outputs (unwritten l) (replicate (T l * S l) nought) (replicate (T l * S l) 0)
 
-abbrev pub trainingOutputs : Lent → Training.Outputs
+abbrev pub trainingOutputs : Lent → BaumWelch.Outputs
 trainingOutputs l =
-    Training.outputs (replicate (S l * S l) nought) (replicate (S l * M l) nought) (replicate (S l) nought) (replicate (S l) nought)
+    BaumWelch.outputs (replicate (S l * S l) nought) (replicate (S l * M l) nought) (replicate (S l) nought) (replicate (S l) nought)
     (replicate (T l * S l) nought) (replicate (T l * S l) nought)
 
 -- what the call promises to answer
 abbrev pub answer : Call → Answer
-answer (viterbi l) = Viterbi.answered l (viterbiOutputs l)
+answer (viterbi l) = answered (Viterbi.checked l (viterbiOutputs l)) (bestValue (modelOf l) (T l))
 answer (forward l) = forwardAnswer l (T l * S l)
 answer (backward l) = backwardAnswer l (T l * S l)
 answer (baumWelch l) =
     let o = trainingOutputs l in
-    cond (isDone (Training.checked l o)) (massAnswer (modelOf l) (Training.walked l o)) (Training.checked l o)
+    cond (isDone (BaumWelch.checked l o)) (massAnswer (modelOf l) (walksOf l)) (BaumWelch.checked l o)
 answer (exp d) = expAnswer d
 answer (ln x) = lnAnswer x
 answer (lnSumExp xs) = lnSumExpAnswer xs
@@ -97,39 +97,39 @@ plusInfinity = inf false
 
 unfoldable pub gatePosts : List Example
 gatePosts =
-    -- "P1 samples 0,1,1: path 0,1,1, value -7. P2 sample 1: path 1, value -3. P3 none: empty, minus infinity."
+    -- P1 has three samples, P2 one, P3 none
     decodes (modelP (0 ∷ 1 ∷ 1 ∷ [])) (minus 7) (0 ∷ 1 ∷ 1 ∷ [])
     ∷ decodes (modelP (1 ∷ [])) (minus 3) (1 ∷ [])
     ∷ decodes (modelP []) minusInfinity []
-    -- "P4 samples 0,1,2: refusal 8 at 2. P5 transition 0 NaN: 7. P6 emission 3 = +2^-1074: 7, table 1, place 3; -0.0 there is good."
+    -- P4 has a sample that is no symbol, P5 a NaN, P6 an entry just above zero; -0.0 in its place is good
     ∷ refuses (modelP (0 ∷ 1 ∷ 2 ∷ [])) (refuse UnknownSymbol 4 2)
     ∷ refuses (changedP nan (minus 1) (0 ∷ 1 ∷ 1 ∷ [])) (refuse NotGood 0 0)
     ∷ refuses (changedP (minus 1) least (0 ∷ 1 ∷ 1 ∷ [])) (refuse NotGood 1 3)
     ∷ decodes (changedP (minus 1) (neg nought) (0 ∷ 1 ∷ 1 ∷ [])) (minus 5) (0 ∷ 1 ∷ 1 ∷ [])
-    -- "Z1 samples 0,0: path 1,1, value 0."
+    -- Z1: of equal paths the one of the highest states is given
     ∷ decodes (modelZ (0 ∷ 0 ∷ [])) nought (1 ∷ 1 ∷ [])
-    -- "Z3 three states, initial all minus infinity, the rest 0, two samples: path 2,2, minus infinity."
+    -- Z3: no path is possible
     ∷ decodes (changedZ 3 minusInfinity (0 ∷ 0 ∷ [])) minusInfinity (2 ∷ 2 ∷ [])
-    -- "Z2 one sample, forward and backward: 0.6931471805599453." ln2 is that number
+    -- Z2: both walks sum two ones; ln2 is 0.6931471805599453
     ∷ gives (forward (modelZ (0 ∷ []))) (done ln2)
     ∷ gives (backward (modelZ (0 ∷ []))) (done ln2)
-    -- "Z4 training pass on one sample without end: 9 at state 0."
+    -- Z4: after one sample without an end state nothing is left of state 0
     ∷ gives (baumWelch (modelZ (0 ∷ []))) (refuse ZeroMass 0 0)
-    -- "K1 exp(0) = 1, exp(-inf) = 0. K2 ln(1) = 0, ln(2) = 0.6931471805599453, ln(0.5) its negative."
+    -- K1 is exp at both ends of its domain, K2 ln at 1 and on both sides of it
     ∷ gives (exp nought) (done one)
     ∷ gives (exp minusInfinity) (done nought)
     ∷ gives (ln one) (done nought)
     ∷ gives (ln two) (done ln2)
     ∷ gives (ln half) (done (neg ln2))
-    -- "S1 sum of (+inf, -1) = +inf. S2 `ln_sub_exp`(-1,-1) = minus infinity."
+    -- S1: plus infinity is the greatest. S2: equal numbers leave nothing
     ∷ gives (lnSumExp (plusInfinity ∷ minus 1 ∷ [])) (done plusInfinity)
     ∷ gives (lnSubExp (minus 1) (minus 1)) (done minusInfinity)
     ∷ []
 
 -- the definitions give an example: its answer, to the bit, and its path
 pub record Holds (e : Example) : Type 0 where
-  pub answered : answer (e .call) ≡ e .answers
-  pub left : path (e .call) ≡ e .leaves
+  pub answerIs : answer (e .call) ≡ e .answers
+  pub pathIs : path (e .call) ≡ e .leaves
 
 abbrev pub AllHold : List Example → Type 0
 AllHold [] = Unit

@@ -1,26 +1,23 @@
 -- Laws of exp: its value is from +0.0 to 1.0, whatever d; exp(0) = 1 at either zero, exp(-inf) = 0, and A·2^-(31+I) is exact.
--- There is no law that exp rises with d: `exp-not-monotone`, below, is a place where it falls. Assumes nothing.
+-- There is no law that exp rises with d: `exp-not-monotone`, below, is a place where it falls.
 use mathlib.Core.Path.{_≡_, refl, sym, ap, _∙_, subst}
 use mathlib.Core.Bool.{Bool, true, false, cond}
 use Prim.Native.Nat.{ℕ, _+_, _-_, _*_, _/_, _%_, _^_, _≤_, _<_}
-use native.Mathlib.Nat.{le-trans, le-of-eq, lt-of-le-of-lt, mul-assoc, mul-one, mul-comm, mul-le-mul-right, div-le-of-le-mul}
+use native.Mathlib.Nat.{le-trans, le-of-eq, lt-of-le-of-lt, mul-assoc, mul-comm, mul-le-mul-right, div-le-of-le-mul}
 use native.Mathlib.Omega.{arith}
-use borrow.Author.Tests.{ltb-false}
-use lib.Dec.{T, ltb, lit<}
+use lib.Dec.{T, lit<}
 use lib.IntN.{pos}
 use lib.Pow.{pow-pos, pow-mono, pow-lt, pow-add}
-use lib.Ieee.{Float, nan, inf, fin, up, down, binary64, round, size, le, lt, eq, neg, mul, ofBits, fits}
-use lib.Ieee.Fits.{round-fits}
+use lib.Ieee.{Float, nan, inf, fin, up, down, binary64, round, size, le, lt, eq, neg, mul, ofBits}
 use lib.Ieee.Exact.{HasValue, round-exact}
-use lib.Ieee.Scale.{finite}
-use Rattle.order.specs.Float.{nought, one, minusInfinity, nonneg, unit}
-use Rattle.order.proofs.Unit.{round-unit}
-use Rattle.order.proofs.Fraction.{unit-nonneg, unit-finite, unit-le-one}
-use Rattle.kernels.specs.Binary.{dyadic}
+use Rattle.floats.specs.Float.{nought, one, minusInfinity}
+use Rattle.floats.specs.inner.Sign.{nonneg, unit}
+use Rattle.floats.proofs.Unit.{round-unit}
+use Rattle.floats.proofs.Fraction.{unit-nonneg, unit-le-one}
 use Rattle.kernels.specs.Roots.{constants}
 use Rattle.kernels.specs.Exp.{steps, power, log2e, expArg, expEnd, floor30, expFrom, expOf}
 use Rattle.kernels.proofs.Steps.{power-le}
-use Rattle.kernels.proofs.ExpParts.{arg-nonneg, or-false}
+use Rattle.kernels.proofs.ExpParts.{arg-nonneg, under-end}
 
 -- ---- from +0.0 to 1.0
 from-unit : (Y : ℕ) → T (unit (expFrom Y))
@@ -40,21 +37,10 @@ exp-unit d = go (le expEnd (expArg d))
 pub exp-nonneg : (d : Float) → T (nonneg (expOf d))
 exp-nonneg d = unit-nonneg (expOf d) (exp-unit d)
 
-pub exp-finite : (d : Float) → T (finite (expOf d))
-exp-finite d = unit-finite (expOf d) (exp-unit d)
-
 pub exp-le-one : (d : Float) → T (le (expOf d) one)
 exp-le-one d = unit-le-one (expOf d) (exp-unit d)
 
-pub exp-fits : (d : Float) → T (fits binary64 (expOf d))
-unfolding expOf expFrom
-exp-fits d = go (le expEnd (expArg d))
-  where
-    go : (t : Bool) → T (fits binary64 (cond t nought (dyadic (pos (power (floor30 (expArg d) % 2 ^ 30))) (31 + floor30 (expArg d) / 2 ^ 30))))
-    go true = unfold fits in tt
-    go false = round-fits binary64 false (power (floor30 (expArg d) % 2 ^ 30)) (2 ^ (31 + floor30 (expArg d) / 2 ^ 30))
-
--- ---- "Answer A·2^-(31+I), exact"
+-- ---- the value A·2^-(31+I) is exact
 from-exact : (Y : ℕ) → Y < 2 ^ 36 → HasValue (expFrom Y) false (power (Y % 2 ^ 30)) (2 ^ (31 + Y / 2 ^ 30))
 unfolding expFrom
 from-exact Y h =
@@ -73,20 +59,22 @@ floor-under nan n h = absurd n
 floor-under (inf s) n h = lit< tt
 floor-under (fin true m e) n h = absurd n
 floor-under (fin false m e) n h =
-    let k : m * up e * 1 ≤ 62 * down e = ltb-false (62 * down e) (m * up e * 1) (or-false (ltb (62 * down e) (m * up e * 1)) (eq expEnd (fin false m e)) h) in
-    let l : m * up e ≤ 62 * down e = omega (arith, mul-one (m * up e)) in
-    let t : m * up e * 2 ^ 30 / down e ≤ 62 * 2 ^ 30 = div-le-of-le-mul (down e) (le-trans (mul-le-mul-right (2 ^ 30) l) (le-of-eq (mul-comm (62 * down e) (2 ^ 30) ∙ swap (2 ^ 30) (down e)))) in
+    let l = under-end m e h in
+    let u = le-of-eq (mul-comm (62 * down e) (2 ^ 30) ∙ swap (2 ^ 30) (down e)) in
+    let t : m * up e * 2 ^ 30 / down e ≤ 62 * 2 ^ 30 = div-le-of-le-mul (down e) (le-trans (mul-le-mul-right (2 ^ 30) l) u) in
     lt-of-le-of-lt t (lit< tt)
   where
     swap : (p d : ℕ) → p * (62 * d) ≡ d * (62 * p)
     swap p d = sym (mul-assoc p 62 d) ∙ mul-comm (p * 62) d ∙ ap (λ (n : ℕ). d * n) (mul-comm p 62)
 
 -- where y is below 62, exp(d) is A·2^-(31+I) itself
-pub exp-exact : (d : Float) → le expEnd (expArg d) ≡ false → HasValue (expOf d) false (power (floor30 (expArg d) % 2 ^ 30)) (2 ^ (31 + floor30 (expArg d) / 2 ^ 30))
+pub exp-exact : (d : Float) → le expEnd (expArg d) ≡ false
+    → HasValue (expOf d) false (power (floor30 (expArg d) % 2 ^ 30)) (2 ^ (31 + floor30 (expArg d) / 2 ^ 30))
 unfolding expOf
 exp-exact d h =
     let Y = floor30 (expArg d) in
-    subst (λ (t : Bool). HasValue (cond t nought (expFrom Y)) false (power (Y % 2 ^ 30)) (2 ^ (31 + Y / 2 ^ 30))) (sym h) (from-exact Y (floor-under (expArg d) (arg-nonneg d) h))
+    subst (λ (t : Bool). HasValue (cond t nought (expFrom Y)) false (power (Y % 2 ^ 30)) (2 ^ (31 + Y / 2 ^ 30))) (sym h)
+    (from-exact Y (floor-under (expArg d) (arg-nonneg d) h))
 
 -- ---- at the ends
 -- 1 at either zero, and outside of the domain, at a NaN and above 0
@@ -103,6 +91,7 @@ unfolding expOf log2e round size mul le lt neg
 exp-minus-infinity = refl
 
 -- ---- exp is not monotone: of these two neighbours, the smaller argument has the larger value
-pub exp-not-monotone : T (lt (ofBits binary64 0xbfd62e42fefa39ef) (ofBits binary64 0xbfd62e42fefa39ee)) × T (lt (expOf (ofBits binary64 0xbfd62e42fefa39ee)) (expOf (ofBits binary64 0xbfd62e42fefa39ef)))
+pub exp-not-monotone : T (lt (ofBits binary64 0xbfd62e42fefa39ef) (ofBits binary64 0xbfd62e42fefa39ee))
+    × T (lt (expOf (ofBits binary64 0xbfd62e42fefa39ee)) (expOf (ofBits binary64 0xbfd62e42fefa39ef)))
 unfolding expOf expFrom constants steps log2e round size mul le lt eq neg ofBits
 exp-not-monotone = (tt, tt)

@@ -1,18 +1,20 @@
--- What exp's tests tell of y: its sign is clear, and below 62 its bits are small enough for the shift. And its literals. Assumes nothing.
+-- What exp's tests tell of y: its sign is clear, and below 62 its bits are small enough for the shift. And its literals.
 use mathlib.Core.Path.{_≡_, refl, sym, subst}
-use mathlib.Core.Bool.{Bool, true, false, cond, _||_, true≢false}
+use mathlib.Core.Bool.{Bool, true, false, cond, true≢false}
 use Prim.Native.Nat.{ℕ, _+_, _-_, _*_, _/_, _^_, _≤_, _<_}
 use native.Mathlib.Nat.{mul-one, zero-mul, div-lt-iff-lt-mul, lt-of-le-of-lt, mul-right-comm, mul-le-mul-right, mul-lt-mul-of-pos-right, le-of-eq, le-trans}
 use native.Mathlib.Omega.{arith}
 use borrow.Author.Tests.{ltb-false, le-ltb}
-use lib.IntN.{negsuc}
+use lib.IntN.{ℤ, negsuc}
 use lib.Dec.{T, ltb, lit<}
 use lib.Ieee.{Float, nan, inf, fin, binary64, up, down, ofBits, toBits, lt, eq, le, neg, mul, round, size}
 use lib.Ieee.Fits.{down-pos, kept-lt}
 use lib.Ieee.Digits.{size-le}
-use Rattle.order.specs.Float.{nought, nonneg}
-use Rattle.order.proofs.Fraction.{times-sign}
-use Rattle.kernels.specs.Exp.{magnitude, log2e, expArg, expEnd}
+use Rattle.floats.specs.Float.{nought}
+use Rattle.floats.specs.inner.Sign.{nonneg}
+use Rattle.floats.proofs.Tests.{or-false}
+use Rattle.floats.proofs.Fraction.{times-sign}
+use Rattle.kernels.specs.Exp.{depth, log2e, expArg, expEnd}
 
 -- ---- the literals of the source
 pub log2e-is : log2e ≡ fin false 3248660424278399 (negsuc 50)
@@ -24,29 +26,34 @@ unfolding ofBits
 log2e-bits = sym log2e-is
 
 -- ---- y has a clear sign
-pub magnitude-nonneg : (d : Float) → T (nonneg (magnitude d))
+pub depth-nonneg : (d : Float) → T (nonneg (depth d))
 unfolding lt neg
-magnitude-nonneg nan = tt
-magnitude-nonneg (inf true) = tt
-magnitude-nonneg (inf false) = tt
-magnitude-nonneg (fin true m e) = go (ltb 0 (m * up e * 1 + 0 * down e))
+depth-nonneg nan = tt
+depth-nonneg (inf true) = tt
+depth-nonneg (inf false) = tt
+depth-nonneg (fin true m e) = go (ltb 0 (m * up e * 1 + 0 * down e))
   where
     go : (t : Bool) → T (nonneg (cond t (fin false m e) nought))
     go true = tt
     go false = tt
-magnitude-nonneg (fin false m e) =
+depth-nonneg (fin false m e) =
     subst (λ (t : Bool). T (nonneg (cond t (fin true m e) nought))) (sym (le-ltb (m * up e * 1) (0 * down e) (none (down e) (m * up e * 1)))) tt
   where
     none : (d n : ℕ) → 0 * d ≤ n
     none d n = omega (arith, zero-mul d)
 
 pub arg-nonneg : (d : Float) → T (nonneg (expArg d))
-arg-nonneg d = subst (λ (c : Float). T (nonneg (mul binary64 (magnitude d) c))) (sym log2e-is) (times-sign binary64 false (magnitude d) 3248660424278398 (negsuc 50) (magnitude-nonneg d))
+arg-nonneg d =
+    subst (λ (c : Float). T (nonneg (mul binary64 (depth d) c))) (sym log2e-is)
+    (times-sign binary64 false (depth d) 3248660424278398 (negsuc 50) (depth-nonneg d))
 
 -- ---- y below 62
-pub or-false : (a b : Bool) → (a || b) ≡ false → a ≡ false
-or-false true b h = h
-or-false false b h = refl
+pub under-end : (m : ℕ) (e : ℤ) → le expEnd (fin false m e) ≡ false → m * up e ≤ 62 * down e
+unfolding le lt
+under-end m e h =
+    let below = or-false (ltb (62 * down e) (m * up e * 1)) (eq expEnd (fin false m e)) h .0 in
+    let k : m * up e * 1 ≤ 62 * down e = ltb-false (62 * down e) (m * up e * 1) below in
+    omega (arith, mul-one (m * up e))
 
 units-under : (n d : ℕ) → 0 < d → n ≤ 62 * d → n * 2 ^ 1074 / d < 2 ^ 1080
 units-under n d D h =
@@ -67,5 +74,4 @@ small-pattern (inf true) n h = absurd n
 small-pattern (inf false) n h = absurd (true≢false h)
 small-pattern (fin true m e) n h = absurd n
 small-pattern (fin false m e) n h =
-    let k : m * up e * 1 ≤ 62 * down e = ltb-false (62 * down e) (m * up e * 1) (or-false (ltb (62 * down e) (m * up e * 1)) (eq expEnd (fin false m e)) h) in
-    pattern-small (m * up e * 2 ^ 1074 / down e) (units-under (m * up e) (down e) (down-pos e) (le-trans (le-of-eq (sym (mul-one (m * up e)))) k))
+    pattern-small (m * up e * 2 ^ 1074 / down e) (units-under (m * up e) (down e) (down-pos e) (under-end m e h))

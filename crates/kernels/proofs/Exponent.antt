@@ -1,4 +1,4 @@
--- The signed part of ln: each step of e·2^30 + f fits an i64, what the machine reads back is the number, and an f64 holds it. Assumes nothing.
+-- The signed part of ln: each step of e·2^30 + f fits an i64, what the machine reads back is the number, and an f64 holds it.
 use mathlib.Core.Path.{_≡_, sym, ap, _∙_, subst}
 use mathlib.Core.Bool.{Bool, true, false, cond}
 use Prim.Native.Nat.{ℕ, zero, suc, _+_, _-_, _*_, _^_, _≤_, _<_}

@@ -1,4 +1,4 @@
--- floor(y·2^30) by y's bits: the digits shifted down, or 0 where they would all go. Assumes nothing.
+-- floor(y·2^30) by y's bits: the digits shifted down, or 0 where they would all go.
 use mathlib.Core.Path.{_≡_, sym, ap, _∙_}
 use Prim.Native.Nat.{ℕ, _+_, _-_, _*_, _/_, _^_, _≤_, _<_}
 use mathlib.Core.Bool.{Bool}
@@ -9,7 +9,7 @@ use lib.Ieee.{Float, nan, inf, fin, binary64, up, down, ofBits}
 use lib.Ieee.Fits.{down-pos}
 use lib.Ieee.Exact.{HasValue}
 use lib.Ieee.Nearest.{div-same}
-use Rattle.kernels.specs.Pattern.{fieldOf, digitsOf, placeOf}
+use Rattle.kernels.specs.inner.Pattern.{fieldOf, digitsOf, placeOf}
 use Rattle.kernels.specs.Exp.{floor30}
 use Rattle.kernels.proofs.Pattern.{pattern-value, digits-lt}
 

@@ -1,36 +1,37 @@
--- Laws of ln: never a NaN; at least +0.0 from 1 up, at most 0 up to 1, finite where x is; ln(1) = 0, and minus infinity at either zero;
--- at most 64 up to 2^53; and x = m·2^e, (e·2^30 + F)·2^-30 are exact. Assumes nothing.
+-- Laws of ln: never a NaN; at least +0.0 from 1 up, at most 0 up to 1; ln(1) = 0, and minus infinity at either zero;
+-- at most 64 up to 2^53; and x = m·2^e, (e·2^30 + F)·2^-30 are exact.
 use mathlib.Core.Path.{_≡_, refl, sym, ap, _∙_, subst}
 use mathlib.Core.Bool.{Bool, true, false, not, cond, _||_, _&&_}
 use mathlib.Core.Logic.{_⊎_, inl, inr}
 use Prim.Native.Nat.{ℕ, zero, suc, _+_, _-_, _*_, _/_, _^_, _≤_, _<_}
-use native.Mathlib.Nat.{le-trans, le-of-eq, le-of-lt, lt-of-lt-of-le, lt-of-le-of-lt, lt-of-not-le, lt-irrefl, mul-one, one-mul, mul-comm, mul-assoc, mul-right-comm, mul-pos, mul-le-mul-right, mul-lt-mul-of-pos-right, div-le-of-le-mul, le-div-iff-mul-le, div-lt-iff-lt-mul, eq-or-lt-of-le, zero-mul, pow-suc, add-zero}
+use native.Mathlib.Nat.{le-trans, le-of-eq, lt-of-lt-of-le, lt-of-le-of-lt, lt-of-not-le, lt-irrefl, mul-one, one-mul, mul-comm}
+use native.Mathlib.Nat.{mul-assoc, mul-right-comm, mul-pos, mul-le-mul-right, mul-lt-mul-of-pos-right, div-le-of-le-mul}
+use native.Mathlib.Nat.{le-div-iff-mul-le, div-lt-iff-lt-mul, eq-or-lt-of-le, zero-mul, pow-suc, add-zero}
 use native.Mathlib.Omega.{arith}
 use borrow.Author.Tests.{le-ltb, lt-ltb}
-use lib.Dec.{T, eqb, leb, eqb→eq, ltb→lt, leb→le, nleb→lt, lit<, lit≤}
+use lib.Dec.{T, eqb, leb, eqb→eq, leb→le, nleb→lt, lit<, lit≤}
 use lib.IntN.{ℤ, pos, negsuc, negℤ, _+ℤ_, _-ℤ_}
 use lib.Signed.{mag}
 use lib.Pow.{pow-pos, pow-mono, pow-add, pow-lt}
 use lib.Ieee.{Float, nan, inf, fin, binary64, up, down, round, size, le, lt, eq, mul, isNan, fits}
-use lib.Ieee.Fits.{and-r, down-pos, mul-fits}
+use lib.Ieee.Fits.{and-r, down-pos}
 use lib.Ieee.Digits.{size-lt, size-le}
 use lib.Ieee.Exact.{HasValue, round-exact}
 use lib.Ieee.Order.{round-mono}
-use lib.Ieee.Scale.{finite}
-use Rattle.order.specs.Float.{nought, one, minusInfinity, isNumber, hasSign, nonneg, nonpos, unit}
+use Rattle.floats.specs.Float.{nought, one, minusInfinity, isNumber}
+use Rattle.floats.specs.inner.Sign.{hasSign, nonneg, nonpos, unit}
 use Rattle.answer.specs.Answer.{done}
-use Rattle.order.proofs.Order.{le-le}
-use Rattle.order.proofs.Sub.{neg-finite}
-use Rattle.order.proofs.Round.{round-neg, fit-in}
-use Rattle.order.proofs.Keys.{steps}
-use Rattle.order.proofs.Sign.{round-nonneg, round-nonpos, sign-num}
-use Rattle.order.proofs.Fraction.{le→cross, nonpos-le, times-sign, mul-value}
+use Rattle.floats.proofs.Order.{le-le}
+use Rattle.floats.proofs.Round.{fit-in}
+use Rattle.floats.proofs.Keys.{steps}
+use Rattle.floats.proofs.Sign.{round-nonneg, round-nonpos, sign-num}
+use Rattle.floats.proofs.Fraction.{le→cross, nonpos-le, times-sign}
 use Rattle.kernels.specs.Binary.{unitsOf, dyadic}
 use Rattle.kernels.specs.Ln.{mantissa, squared, bitOf, halved, logBits, joined, lnFixed, ln2, lnFrom, lnOf}
 use Rattle.kernels.specs.Calls.{lnAnswer}
 use Rattle.kernels.proofs.Size.{size-low}
 use Rattle.kernels.proofs.Exponent.{joined-small}
-use Rattle.kernels.proofs.LnParts.{ln2-is, other-ln, units-lt, not-above}
+use Rattle.kernels.proofs.LnParts.{ln2-is, other-ln}
 
 -- ---- F is below 2^30
 bit-lt : (b : ℕ) → bitOf b < 2
@@ -102,7 +103,9 @@ from-nonneg n h =
 
 from-nonpos : (n : ℕ) → n < 2 ^ 1074 → T (nonpos (lnFrom n))
 unfolding lnFrom
-from-nonpos n h = ln2-sign true (dyadic (lnFixed n) 30) (dyadic-nonpos (lnFixed n) 30 (joined-neg (size n) (logBits 30 (mantissa n) 0) (go (size n) (size-le n 1074 h)) (log-lt (mantissa n))))
+from-nonpos n h =
+    ln2-sign true (dyadic (lnFixed n) 30) (dyadic-nonpos (lnFixed n) 30
+    (joined-neg (size n) (logBits 30 (mantissa n) 0) (go (size n) (size-le n 1074 h)) (log-lt (mantissa n))))
   where
     go : (s : ℕ) → s ≤ 1074 → s < 1075
     go s k = omega arith
@@ -177,14 +180,6 @@ ln-number (fin true m e) = unfold isNan in tt
 ln-number (fin false zero e) = unfold isNan in tt
 ln-number (fin false (suc m) e) = from-number (unitsOf (fin false (suc m) e))
 
-pub ln-fits : (x : Float) → T (fits binary64 (lnOf x))
-unfolding lnOf lnFrom
-ln-fits nan = unfold fits in tt
-ln-fits (inf s) = unfold fits in tt
-ln-fits (fin true m e) = unfold fits in tt
-ln-fits (fin false zero e) = unfold fits in tt
-ln-fits (fin false (suc m) e) = mul-fits binary64 (dyadic (lnFixed (unitsOf (fin false (suc m) e))) 30) ln2
-
 -- ---- at 1 and at 0
 pub ln-one : lnOf one ≡ nought
 unfolding lnOf lnFrom logBits size mul round ln2
@@ -250,7 +245,8 @@ from-small n h g =
 units-small : (m : ℕ) (e : ℤ) → T (le (fin false m e) two53) → unitsOf (fin false m e) < 2 ^ 1128
 units-small m e h =
     let k : m * up e ≤ 2 ^ 53 * down e = le-trans (le-of-eq (sym (mul-one (m * up e)))) (le→cross m e 1 (pos 53) h) in
-    lt-of-le-of-lt (div-le-of-le-mul (down e) (le-trans (mul-le-mul-right (2 ^ 1074) k) (le-of-eq (ap (λ (z : ℕ). z * 2 ^ 1074) (mul-comm (2 ^ 53) (down e)) ∙ mul-assoc (down e) (2 ^ 53) (2 ^ 1074)))))
+    lt-of-le-of-lt (div-le-of-le-mul (down e) (le-trans (mul-le-mul-right (2 ^ 1074) k)
+    (le-of-eq (ap (λ (z : ℕ). z * 2 ^ 1074) (mul-comm (2 ^ 53) (down e)) ∙ mul-assoc (down e) (2 ^ 53) (2 ^ 1074)))))
     (lt-of-le-of-lt (le-of-eq (sym (pow-add 2 53 1074))) (pow-lt {i = 53 + 1074} {j = 1128} (lit< tt)))
 
 pub ln-small : (x : Float) → T (le one x) → T (le x two53) → T (le (lnOf x) sixty-four)
@@ -262,7 +258,7 @@ ln-small (fin true m e) h g = absurd (signed-below m e h)
 ln-small (fin false zero e) h g = unfold le lt in tt
 ln-small (fin false (suc m) e) h g = from-small (unitsOf (fin false (suc m) e)) (units-from (suc m) e h) (units-small (suc m) e g)
 
--- ---- "x = m·2^e with 1 ≤ m < 2, subnormals included": no digit of an f64 is below a unit, and A is from 2^31 to 2^32
+-- ---- x = m·2^e with 1 ≤ m < 2, subnormals included: no digit of an f64 is below a unit, and A is from 2^31 to 2^32
 pub units-exact : (s : Bool) (m : ℕ) (e : ℤ) → T (fits binary64 (fin s m e)) → HasValue (fin s m e) s (unitsOf (fin s m e)) (2 ^ 1074)
 unfolding steps isNan
 units-exact s m e h = (refl, sym (fit-in binary64 (fin s m e) h tt .0))
@@ -280,7 +276,7 @@ mantissa-range n h =
     twice : (p q : ℕ) → q ≡ p * 2 → q * 2147483648 ≡ 4294967296 * p
     twice p q e = omega arith
 
--- ---- "(e·2^30 + F)·2^-30, exact"
+-- ---- (e·2^30 + F)·2^-30 is exact
 abbrev pub Exactly : ℤ → ℕ → Float → Type 0
 Exactly (pos n) k x = HasValue x false n (2 ^ k)
 Exactly (negsuc n) k x = HasValue x true (suc n) (2 ^ k)
@@ -300,42 +296,3 @@ fixed-small n h = joined-small (size n) (logBits 30 (mantissa n) 0) (size-le n 2
 
 pub fixed-exact : (n : ℕ) → n < 2 ^ 2098 → Exactly (lnFixed n) 30 (dyadic (lnFixed n) 30)
 fixed-exact n h = dyadic-exact (lnFixed n) (fixed-small n h)
-
--- ---- finite where x is finite and above 0
-bounded-finite : (x : Float) → T (nonneg x) → T (le x two53) → T (finite x)
-bounded-finite nan n h = absurd n
-bounded-finite (inf true) n h = absurd n
-bounded-finite (inf false) n h = absurd (unfold le lt eq in h)
-bounded-finite (fin s m e) n h = tt
-
-rounded-two53 : round binary64 false (2 ^ 53) 1 ≡ two53
-unfolding round size
-rounded-two53 = refl
-
-product-finite : (n : ℕ) → n < 2 ^ 53 → T (finite (round binary64 false (n * 6243314768165359) (2 ^ 30 * 2 ^ 53)))
-product-finite n h =
-    let x = round binary64 false (n * 6243314768165359) (2 ^ 30 * 2 ^ 53) in
-    bounded-finite x (round-nonneg (n * 6243314768165359) (2 ^ 30 * 2 ^ 53))
-    (subst (λ (y : Float). T (le x y)) rounded-two53
-    (round-mono binary64 (n * 6243314768165359) (2 ^ 30 * 2 ^ 53) (2 ^ 53) 1 (lit< tt) (omega arith)
-    (le-trans (le-of-eq (mul-one (n * 6243314768165359))) (le-trans (mul-le-mul-right 6243314768165359 (le-of-lt h)) (lit≤ tt)))))
-
-times-finite : (z : ℤ) → mag z < 2 ^ 52 → T (finite (mul binary64 (dyadic z 30) ln2))
-times-finite (pos n) h =
-    let k : n < 2 ^ 53 = lt-of-lt-of-le h (lit≤ tt) in
-    subst (λ (x : Float). T (finite x))
-    (sym (ap (mul binary64 (dyadic (pos n) 30)) ln2-is ∙ mul-value binary64 (dyadic (pos n) 30) (fin false 6243314768165359 (negsuc 52)) false false n (2 ^ 30) 6243314768165359 (2 ^ 53) (pow-pos 30) (pow-pos 53) (scaled-exact false n k) (refl, refl)))
-    (product-finite n k)
-times-finite (negsuc n) h =
-    let k : suc n < 2 ^ 53 = lt-of-le-of-lt h (lit< tt) in
-    subst (λ (x : Float). T (finite x))
-    (sym (ap (mul binary64 (dyadic (negsuc n) 30)) ln2-is ∙ mul-value binary64 (dyadic (negsuc n) 30) (fin false 6243314768165359 (negsuc 52)) true false (suc n) (2 ^ 30) 6243314768165359 (2 ^ 53) (pow-pos 30) (pow-pos 53) (scaled-exact true (suc n) k) (refl, refl) ∙ round-neg binary64 (suc n * 6243314768165359) (2 ^ 30 * 2 ^ 53)))
-    (neg-finite (round binary64 false (suc n * 6243314768165359) (2 ^ 30 * 2 ^ 53)) (product-finite (suc n) k))
-
-pub ln-finite : (x : Float) → T (fits binary64 x) → T (finite x) → T (lt nought x) → T (finite (lnOf x))
-unfolding lnOf lnFrom
-ln-finite nan f n h = absurd n
-ln-finite (inf s) f n h = absurd n
-ln-finite (fin true m e) f n h = absurd (unfold lt in h)
-ln-finite (fin false zero e) f n h = absurd (not-above (up e) (down e) (ltb→lt (0 * down e) (0 * up e * 1) (unfold lt in h)))
-ln-finite (fin false (suc m) e) f n h = times-finite (lnFixed (unitsOf (fin false (suc m) e))) (fixed-small (unitsOf (fin false (suc m) e)) (units-lt m e f))

@@ -1,4 +1,4 @@
--- ln's e·2^30 + F, from the parts that the code works out; and what ln's tests tell of x. Assumes nothing.
+-- ln's e·2^30 + F, from the parts that the code works out; and what ln's tests tell of x.
 use mathlib.Core.Path.{_≡_, refl, sym, ap, _∙_}
 use mathlib.Core.Bool.{Bool, true, false, not, cond, true≢false, false≢true}
 use mathlib.Core.Logic.{inl, inr}
@@ -14,11 +14,11 @@ use lib.Ieee.Fits.{down-pos, up-pos, kept-lt}
 use lib.Ieee.Digits.{size-le}
 use lib.Ieee.Bits.{ofBits-toBits}
 use lib.Ieee.Back.{round-whole}
-use Rattle.order.specs.Float.{nought, minusInfinity}
-use Rattle.order.proofs.Fraction.{mul-value}
-use Rattle.order.proofs.Round.{fit-high}
+use Rattle.floats.specs.Float.{nought, minusInfinity}
+use Rattle.floats.proofs.Fraction.{mul-value}
+use Rattle.floats.proofs.Round.{fit-of}
 use Rattle.kernels.specs.Binary.{unitsOf, dyadic}
-use Rattle.kernels.specs.Pattern.{fieldOf, digitsOf, placeOf}
+use Rattle.kernels.specs.inner.Pattern.{fieldOf, digitsOf, placeOf}
 use Rattle.kernels.specs.Ln.{logBits, joined, mantissa, lnFixed, ln2, lnFrom, lnOf}
 use Rattle.kernels.proofs.Pattern.{pattern-units, digits-lt}
 use Rattle.kernels.proofs.Size.{size-shifted, mantissa-is}
@@ -44,7 +44,8 @@ pub digits-size : (b : ℕ) → size (digitsOf b) ≤ 53
 digits-size b = size-le (digitsOf b) 53 (digits-lt b)
 
 module _ (b : ℕ) (h : 0 < b) (k : fieldOf b < 2047) where
-  whole : joined (pos (placeOf b + size (digitsOf b)) -ℤ pos 1075) (logBits 30 (digitsOf b * 2 ^ (64 - size (digitsOf b)) % 2 ^ 64 / 2 ^ 32) 0) ≡ lnFixed (unitsOf (ofBits binary64 b))
+  whole : joined (pos (placeOf b + size (digitsOf b)) -ℤ pos 1075)
+      (logBits 30 (digitsOf b * 2 ^ (64 - size (digitsOf b)) % 2 ^ 64 / 2 ^ 32) 0) ≡ lnFixed (unitsOf (ofBits binary64 b))
   whole =
       let Q = digitsOf b in
       let P = placeOf b in
@@ -52,7 +53,8 @@ module _ (b : ℕ) (h : 0 < b) (k : fieldOf b < 2047) where
       ∙ ap (λ (s : ℕ). joined (pos s -ℤ pos 1075) (logBits 30 (mantissa (Q * 2 ^ P)) 0)) (sym (size-shifted Q P (digits-pos b h)))
       ∙ ap lnFixed (sym (pattern-units b k))
 
-  pub parts : (q s p f : ℕ) → q ≡ digitsOf b → s ≡ size q → p ≡ placeOf b → f ≡ logBits 30 (q * 2 ^ (64 - s) % 2 ^ 64 / 2 ^ 32) 0 → joined (pos (p + s) -ℤ pos 1075) f ≡ lnFixed (unitsOf (ofBits binary64 b))
+  pub parts : (q s p f : ℕ) → q ≡ digitsOf b → s ≡ size q → p ≡ placeOf b → f ≡ logBits 30 (q * 2 ^ (64 - s) % 2 ^ 64 / 2 ^ 32) 0
+      → joined (pos (p + s) -ℤ pos 1075) f ≡ lnFixed (unitsOf (ofBits binary64 b))
   parts q s p f hq hs hp hf =
       ap (λ (x : ℕ). joined (pos (p + s) -ℤ pos 1075) x) hf
       ∙ ap (λ (x : ℕ). joined (pos (p + x) -ℤ pos 1075) (logBits 30 (q * 2 ^ (64 - x) % 2 ^ 64 / 2 ^ 32) 0)) hs
@@ -119,7 +121,7 @@ units-under n d D h =
 
 -- what an f64 above 0 is in units
 pub units-lt : (m : ℕ) (e : ℤ) → T (fits binary64 (fin false (suc m) e)) → unitsOf (fin false (suc m) e) < 2 ^ 2098
-units-lt m e f = units-under (suc m * up e) (down e) (down-pos e) (fit-high binary64 false m e f)
+units-lt m e f = units-under (suc m * up e) (down e) (down-pos e) (fit-of binary64 false m e f .high)
 
 pub pattern-in : (x : Float) → T (fits binary64 x) → lt nought x ≡ true → (x ≡ inf false → ⊥) → fieldOf (toBits binary64 x) < 2047
 unfolding lt toBits
@@ -136,14 +138,21 @@ nought-not-above = refl
 
 pub pattern-pos : (x : Float) → T (fits binary64 x) → lt nought x ≡ true → 0 < toBits binary64 x
 unfolding ofBits
-pattern-pos x f k = elim (eq-zero-or-pos (toBits binary64 x)) [ inl z ↦ absurd (false≢true (sym nought-not-above ∙ ap (λ (y : Float). lt nought y) (sym (ap (ofBits binary64) z) ∙ ofBits-toBits binary64 x f) ∙ k)) | inr p ↦ p ]
+pattern-pos x f k =
+    elim (eq-zero-or-pos (toBits binary64 x)) [
+      | inl z ↦ let e = sym (ap (ofBits binary64) z) ∙ ofBits-toBits binary64 x f in
+          absurd (false≢true (sym nought-not-above ∙ ap (lt nought) e ∙ k))
+      | inr p ↦ p
+    ]
 
 -- ---- the answer: a whole number that an f64 holds, times 2^-30
 pub signed-scaled : (z : ℤ) → T (inFloat binary64 z) → mul binary64 (ofInt binary64 z) (fin false 1 (negsuc 29)) ≡ dyadic z 30
 unfolding ofInt inFloat
 signed-scaled (pos n) h =
-    mul-value binary64 (round binary64 false n 1) (fin false 1 (negsuc 29)) false false n 1 1 (2 ^ 30) (omega arith) (pow-pos 30) (round-whole binary64 false n (leb→le n (2 ^ 53) h)) (refl, refl)
+    mul-value binary64 (round binary64 false n 1) (fin false 1 (negsuc 29)) false false n 1 1 (2 ^ 30) (omega arith) (pow-pos 30)
+    (round-whole binary64 false n (leb→le n (2 ^ 53) h)) (refl, refl)
     ∙ ap (λ (a : ℕ). round binary64 false a (2 ^ 30)) (mul-one n)
 signed-scaled (negsuc n) h =
-    mul-value binary64 (round binary64 true (suc n) 1) (fin false 1 (negsuc 29)) true false (suc n) 1 1 (2 ^ 30) (omega arith) (pow-pos 30) (round-whole binary64 true (suc n) (ltb→lt n (2 ^ 53) h)) (refl, refl)
+    mul-value binary64 (round binary64 true (suc n) 1) (fin false 1 (negsuc 29)) true false (suc n) 1 1 (2 ^ 30) (omega arith)
+    (pow-pos 30) (round-whole binary64 true (suc n) (ltb→lt n (2 ^ 53) h)) (refl, refl)
     ∙ ap (λ (a : ℕ). round binary64 true a (2 ^ 30)) (mul-one (suc n))

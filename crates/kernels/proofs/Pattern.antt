@@ -1,5 +1,5 @@
 -- Bits whose sign is clear and whose exponent's field is not all ones stand for digitsOf·2^placeOf units of 2^-1074; and 2^-k, put together from
--- its field, by which a whole number is scaled. Assumes nothing.
+-- its field, by which a whole number is scaled.
 use mathlib.Core.Path.{_≡_, sym, ap, _∙_, subst}
 use mathlib.Core.Bool.{Bool, true, false, not, cond}
 use Prim.Native.Nat.{ℕ, zero, suc, _+_, _-_, _*_, _/_, _%_, _^_, _≤_, _<_}
@@ -14,9 +14,9 @@ use lib.Ieee.Exact.{HasValue, odd-sign}
 use lib.Ieee.Fits.{down-pos}
 use lib.Ieee.Bits.{nanBits-is}
 use lib.Ieee.Back.{round-whole}
-use Rattle.order.proofs.Fraction.{mul-value}
+use Rattle.floats.proofs.Fraction.{mul-value}
 use Rattle.kernels.specs.Binary.{unitsOf, dyadic}
-use Rattle.kernels.specs.Pattern.{fieldOf, digitsOf, placeOf}
+use Rattle.kernels.specs.inner.Pattern.{fieldOf, digitsOf, placeOf}
 
 -- ---- what the fields stand for
 fields-value : (x t : ℕ) → x < 2047 → HasValue (ofFields binary64 false x t) false (cond (eqb x 0) t (2 ^ 52 + t) * 2 ^ (x - 1)) (2 ^ 1074)
@@ -24,7 +24,8 @@ unfolding ofFields
 fields-value zero t h = odd-sign 53 false t 0 1074
 fields-value (suc j) t h =
     let less : suc j - 1 ≡ j = omega arith in
-    subst (λ (z : Bool). HasValue (cond z (cond (eqb t 0) (inf false) nan) (odd 53 false (2 ^ 52 + t) j 1074)) false (cond (eqb (suc j) 0) t (2 ^ 52 + t) * 2 ^ (suc j - 1)) (2 ^ 1074)) (sym (ne-eqb (suc j) 2047 (λ (e : suc j ≡ 2047). omega arith)))
+    subst (λ (z : Bool). HasValue (cond z (cond (eqb t 0) (inf false) nan) (odd 53 false (2 ^ 52 + t) j 1074)) false
+    (cond (eqb (suc j) 0) t (2 ^ 52 + t) * 2 ^ (suc j - 1)) (2 ^ 1074)) (sym (ne-eqb (suc j) 2047 (λ (e : suc j ≡ 2047). omega arith)))
     (subst (λ (z : Bool). HasValue (odd 53 false (2 ^ 52 + t) j 1074) false (cond z t (2 ^ 52 + t) * 2 ^ (suc j - 1)) (2 ^ 1074)) (sym (eqb·suc-zero j))
     (subst (λ (z : ℕ). HasValue (odd 53 false (2 ^ 52 + t) j 1074) false ((2 ^ 52 + t) * 2 ^ z) (2 ^ 1074)) (sym less)
     (odd-sign 53 false (2 ^ 52 + t) j 1074)))
@@ -62,7 +63,8 @@ value-number (fin t m e) s a c h = tt
 
 pub pattern-number : (b : ℕ) → fieldOf b < 2047 → T (not (nanBits binary64 b))
 pattern-number b h =
-    subst (λ (z : Bool). T (not z)) (sym (nanBits-is binary64 b)) (value-number (ofBits binary64 b) false (digitsOf b * 2 ^ placeOf b) (2 ^ 1074) (pattern-value b h))
+    subst (λ (z : Bool). T (not z)) (sym (nanBits-is binary64 b))
+    (value-number (ofBits binary64 b) false (digitsOf b * 2 ^ placeOf b) (2 ^ 1074) (pattern-value b h))
 
 -- from one fraction to another of the same size
 rescale : (x : Float) (s : Bool) (w l n d : ℕ) → 0 < l → n * l ≡ w * d → HasValue x s w l → HasValue x s n d
@@ -121,6 +123,7 @@ module _ (k : ℕ) (h : k ≤ 1000) where
   pub scaled-is : (a : ℕ) → a ≤ 2 ^ 53 → mul binary64 (ofInt binary64 (pos a)) (ofBits binary64 assembled) ≡ dyadic (pos a) k
   unfolding ofInt
   scaled-is a b =
-      mul-value binary64 (ofInt binary64 (pos a)) (ofBits binary64 assembled) false false a 1 1 (2 ^ k) (omega arith) (pow-pos k) (round-whole binary64 false a b) assembled-value
+      mul-value binary64 (ofInt binary64 (pos a)) (ofBits binary64 assembled) false false a 1 1 (2 ^ k) (omega arith) (pow-pos k)
+      (round-whole binary64 false a b) assembled-value
       ∙ ap (λ (z : ℕ). round binary64 false z (1 * 2 ^ k)) (mul-one a)
       ∙ ap (λ (z : ℕ). round binary64 false a z) (one-mul (2 ^ k))

@@ -1,4 +1,4 @@
--- The thirty constants keep their rule, and the rule fixes them: any table that keeps it is this one. Assumes nothing.
+-- The thirty constants keep their rule, and the rule fixes them: any table that keeps it is this one.
 use mathlib.Core.Path.{_≡_, refl, sym, ap, _∙_, subst}
 use mathlib.Core.List.{List, [], _∷_}
 use Prim.Native.Nat.{ℕ, suc, _+_, _*_, _^_, _≤_, _<_}
@@ -42,7 +42,8 @@ chained-unique before (x ∷ xs) (y ∷ ys) h k e =
     let n = before * 2 ^ 31 in
     let same : x ≡ y = root-unique x y n (and-l (isRoot x n) (chained x xs) h) (and-l (isRoot y n) (chained y ys) k) in
     let rest : xs ≡ ys =
-    chained-unique x xs ys (and-r (isRoot x n) (chained x xs) h) (subst (λ (z : ℕ). T (chained z ys)) (sym same) (and-r (isRoot y n) (chained y ys) k)) (less (length xs) (length ys) e) in
+    chained-unique x xs ys (and-r (isRoot x n) (chained x xs) h)
+    (subst (λ (z : ℕ). T (chained z ys)) (sym same) (and-r (isRoot y n) (chained y ys) k)) (less (length xs) (length ys) e) in
     ap (λ (z : ℕ). z ∷ xs) same ∙ ap (λ (zs : List ℕ). y ∷ zs) rest
   where
     less : (m n : ℕ) → suc m ≡ suc n → m ≡ n

@@ -1,4 +1,4 @@
--- The loop of ln_1m_exp's series: what is left to do from k on. Assumes nothing.
+-- The loop of ln_1m_exp's series: what is left to do from k on.
 use mathlib.Core.Path.{_≡_, refl, sym, ap, _∙_}
 use Prim.Native.Nat.{ℕ, zero, suc, _-_, _≤_, _<_}
 use native.Mathlib.Omega.{arith}

@@ -1,4 +1,4 @@
--- How many binary digits a number has, and ln's mantissa by those digits. Assumes nothing.
+-- How many binary digits a number has, and ln's mantissa by those digits.
 use mathlib.Core.Path.{_≡_, refl, sym, ap, _∙_, subst}
 use Prim.Native.Nat.{ℕ, zero, suc, _+_, _-_, _*_, _/_, _%_, _^_, _≤_, _<_}
 use native.Mathlib.Nat.{le-antisymm, le-trans, le-of-eq, lt-of-not-le, lt-of-lt-of-le, lt-irrefl, mul-le-mul-right, mul-assoc}

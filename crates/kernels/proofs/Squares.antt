@@ -1,4 +1,4 @@
--- The thirty squarings of ln: what a turn does to what is left to do. Assumes nothing.
+-- The thirty squarings of ln: what a turn does to what is left to do.
 use mathlib.Core.Path.{_≡_, refl, sym, ap, _∙_}
 use mathlib.Core.Bool.{Bool, cond}
 use Prim.Native.Nat.{ℕ, suc, _+_, _-_, _*_, _/_, _^_, _≤_, _<_}

@@ -1,9 +1,10 @@
--- The steps of exp: a step with no branch, steps taken one list after another or entry by entry, and the bound 2^31 that none passes. Assumes nothing.
+-- The steps of exp: a step with no branch, steps taken one list after another or entry by entry, and the bound 2^31 that none passes.
 use mathlib.Core.Path.{_≡_, refl, sym, ap, _∙_}
 use mathlib.Core.Bool.{Bool, true, false, cond, _&&_}
 use mathlib.Core.List.{List, [], _∷_, _++_}
 use Prim.Native.Nat.{ℕ, zero, suc, _+_, _-_, _*_, _/_, _%_, _^_, _≤_, _<_}
-use native.Mathlib.Nat.{le-refl, sub-self, le-of-lt, lt-of-le-of-lt, mul-le-mul, mul-one, mul-zero, mul-div-cancel, div-le-of-le-mul, add-comm, add-zero, not-suc-le-zero, le-of-suc-le-suc}
+use native.Mathlib.Nat.{le-refl, sub-self, le-of-lt, lt-of-le-of-lt, mul-le-mul, mul-one, mul-zero, mul-div-cancel, div-le-of-le-mul}
+use native.Mathlib.Nat.{add-comm, add-zero, not-suc-le-zero, le-of-suc-le-suc}
 use native.Mathlib.Omega.{arith}
 use lib.Dec.{T, eqb, ltb, ltb→lt}
 use lib.Ieee.Fits.{and-l, and-r}

@@ -1,7 +1,7 @@
--- What the three public calls answer: the kernel's value in its domain, and elsewhere refusal 7, "outside its domain", at table 0 and place 0.
+-- What the three public calls answer (RULES 4): the kernel's value in its domain, and elsewhere refusal 7 at table 0 and place 0.
 use mathlib.Core.Bool.{Bool, cond}
 use lib.Ieee.{Float, le}
-use Rattle.order.specs.Float.{nought}
+use Rattle.floats.specs.Float.{nought}
 use Rattle.answer.specs.declared.Answer.{Answer}
 use Rattle.answer.specs.declared.Refusal.the-variants.{NotGood}
 use Rattle.answer.specs.Answer.{done, refuse}
@@ -9,17 +9,17 @@ use Rattle.kernels.specs.Exp.{expOf}
 use Rattle.kernels.specs.Ln.{lnOf}
 use Rattle.kernels.specs.Ln1m.{ln1mOf}
 
-abbrev pub answered : Bool → Float → Answer
-answered inDomain v = cond inDomain (done v) (refuse NotGood 0 0)
+abbrev pub kernelAnswer : Bool → Float → Answer
+kernelAnswer inDomain v = cond inDomain (done v) (refuse NotGood 0 0)
 
--- "exp(d), d at most 0"
+-- RULES 4.1: d is at most 0
 abbrev pub expAnswer : Float → Answer
-expAnswer d = answered (le d nought) (expOf d)
+expAnswer d = kernelAnswer (le d nought) (expOf d)
 
--- "ln(x), x at least 0"
+-- RULES 4.2: x is at least 0
 abbrev pub lnAnswer : Float → Answer
-lnAnswer x = answered (le nought x) (lnOf x)
+lnAnswer x = kernelAnswer (le nought x) (lnOf x)
 
--- "ln_1m_exp for p at most 0"
+-- RULES 4.3: p is at most 0
 abbrev pub ln1mAnswer : Float → Answer
-ln1mAnswer p = answered (le p nought) (ln1mOf p)
+ln1mAnswer p = kernelAnswer (le p nought) (ln1mOf p)

@@ -1,5 +1,5 @@
--- The thirty constants of exp and their rule: "C1 = 1,518,500,249, the whole square root of 2^61; each next C is the whole square root of the
--- previous C times 2^31, thirty in all". What stands before the first is 2^30, as 2^30·2^31 = 2^61.
+-- The thirty constants of exp and their rule (RULES 4.1): the first is the whole square root of 2^61, each next one that of the one before
+-- it times 2^31. What stands before the first is 2^30, as 2^30·2^31 = 2^61.
 use Prim.Native.Nat.{ℕ, _*_, _+_, _^_}
 use mathlib.Core.Bool.{Bool, true, _&&_}
 use mathlib.Core.List.{List, [], _∷_}

@@ -6,7 +6,7 @@ ghost use lib.ListN.{take};
 ghost use Rattle.kernels.specs.Roots.{constants};
 ghost use Rattle.kernels.specs.Exp.{steps};
 
-// Entry h is what the steps over the first seven constants make of 2^31, h giving the bits: document 01's rule says what it is.
+// Entry h is what the steps over the first seven constants make of 2^31, h giving the bits (RULES 4.1).
 // A `match` is compiled to a table of 1 KiB beside the code, where an array would be laid out on the stack anew in each call.
 // Seven: one more would double the table for one step of thirty less. An h above 127, which no G has, is worked out.
 pub(crate) fn head(h: u64) -> u64

@@ -6,17 +6,17 @@ use answer::Answer;
 use answer::Refusal;
 use answer::done;
 use answer::refused;
+use floats::minus_infinity;
 use heads::head;
-use order::minus_infinity;
 ghost use mathlib.Core.Path.{_≡_};
 ghost use Prim.Native.Nat.{_-_, _^_, _%_, _≤_, _<_};
 ghost use lib.ListN.{take, drop};
 ghost use lib.IntN.{pos, _-ℤ_};
 ghost use lib.Dec.{T};
 ghost use lib.Ieee.{binary64, ofBits, size, inFloat};
-ghost use Rattle.order.specs.Float.{one};
+ghost use Rattle.floats.specs.Float.{one};
 ghost use Rattle.kernels.specs.Binary.{unitsOf, dyadic};
-ghost use Rattle.kernels.specs.Pattern.{fieldOf, digitsOf, placeOf};
+ghost use Rattle.kernels.specs.inner.Pattern.{fieldOf, digitsOf, placeOf};
 ghost use Rattle.kernels.specs.Roots.{constants};
 ghost use Rattle.kernels.specs.Exp as Exp;
 ghost use Rattle.kernels.specs.Exp.{step, steps, expOf};
@@ -61,8 +61,8 @@ const ROOTS: [u64; 30] = [
 ];
 
 // A kernel's answer: its value, where the argument is inside its domain.
-fn answered(inside: bool, value: f64) -> Answer
-    ensures { λ r. ⌜ r ≡ Calls.answered inside value ⌝ }
+fn kernel_answer(inside: bool, value: f64) -> Answer
+    ensures { λ r. ⌜ r ≡ Calls.kernelAnswer inside value ⌝ }
 {
     if inside {
         done(value)
@@ -140,9 +140,9 @@ fn floor30(bits: u64) -> u64
     if field < 993 { 0 } else { q >> (1045 - field) }
 }
 
-// |d|, for d at most 0.
-fn magnitude(d: f64) -> f64
-    ensures { λ r. ⌜ r ≡ Exp.magnitude d ⌝ }
+// How far d is below 0: |d| for d at most 0, and 0 for any other d.
+fn depth(d: f64) -> f64
+    ensures { λ r. ⌜ r ≡ Exp.depth d ⌝ }
 {
     if d < 0.0 { -d } else { 0.0 }
 }
@@ -151,7 +151,7 @@ fn magnitude(d: f64) -> f64
 pub fn exp_of(d: f64) -> f64
     ensures { λ r. ⌜ r ≡ expOf d ⌝ }
 {
-    let y = magnitude(d) * 1.4426950408889634;
+    let y = depth(d) * 1.4426950408889634;
     if y >= 62.0 {
         return 0.0;
     }
@@ -163,7 +163,7 @@ pub fn exp_of(d: f64) -> f64
 pub fn exp(d: f64) -> Answer
     ensures { λ r. ⌜ r ≡ expAnswer d ⌝ }
 {
-    answered(d <= 0.0, exp_of(d))
+    kernel_answer(d <= 0.0, exp_of(d))
 }
 
 // How many binary digits q has.
@@ -236,7 +236,7 @@ pub fn ln_of(x: f64) -> f64
 pub fn ln(x: f64) -> Answer
     ensures { λ r. ⌜ r ≡ lnAnswer x ⌝ }
 {
-    answered(0.0 <= x, ln_of(x))
+    kernel_answer(0.0 <= x, ln_of(x))
 }
 
 // 1 - q/2 + q·q/6 - .., from the inside.
@@ -259,7 +259,7 @@ pub fn ln_1m_of(p: f64) -> f64
     if p < -0.693 {
         return ln_of(1.0 - exp_of(p));
     }
-    let q = magnitude(p);
+    let q = depth(p);
     ln_of(q * horner(q))
 }
 
@@ -267,5 +267,5 @@ pub fn ln_1m_of(p: f64) -> f64
 pub fn ln_1m_exp(p: f64) -> Answer
     ensures { λ r. ⌜ r ≡ ln1mAnswer p ⌝ }
 {
-    answered(p <= 0.0, ln_1m_of(p))
+    kernel_answer(p <= 0.0, ln_1m_of(p))
 }

@@ -1,7 +1,6 @@
-pub mod Opening
-pub mod Terms
+pub mod Fronts
 pub mod Strides
 pub mod Steps
 pub mod Last
 pub mod Outcome
-pub mod Lid
+pub mod Bounds

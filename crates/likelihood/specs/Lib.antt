@@ -1,3 +1,3 @@
 pub mod Walk
-pub mod Inner
 pub mod Call
+pub mod inner

@@ -1,19 +1,18 @@
 // The likelihood of the samples under a model, by the forward and the backward walk (Rabiner's forward-backward procedure).
 // Both walks go down the rows of the lent values: row i is alpha at sample i or, going back, beta at sample T-1-i. A flag says which way,
-// and only the first row, a cell, a row's sample and the last sum look at it. A sum has a term for each state, 64 at most, so they are
-// laid out in a local array, as the emissions of a row's sample are: a walk reads them from there, whatever an emission is made of. The
-// logarithms of a row are taken at its end, one right after the other.
+// and only the first row, a cell, the time of a row's sample, the last sum and the checks look at it. A sum has a term for each state, 64
+// at most, so they are laid out in a local array, as the emissions of a row's sample are: a walk reads them from there, whatever an
+// emission is made of. The logarithms of a row are taken at its end, one right after the other.
 use answer::Answer;
 use answer::done;
 use answer::is_done;
+use checks::check_rest;
+use checks::check_sizes;
+use emission::first_row;
+use emission::lay_emissions;
+use floats::minus_infinity;
 use model::Shape;
-use model::check_entries;
-use model::check_output;
-use model::check_sizes;
 use model::entry;
-use model::row::first_row;
-use model::row::lay_emissions;
-use order::minus_infinity;
 use probs::sum::Open;
 use probs::sum::close_sum;
 use probs::sum::ln_sum;
@@ -21,14 +20,17 @@ use probs::sum::open_sum;
 ghost use mathlib.Core.Path.{_≡_};
 ghost use Prim.Native.Nat.{_+_, _*_, _<_, _≤_};
 ghost use lib.ListN.{length};
-ghost use Rattle.rows.specs.Lists.{over};
-ghost use Rattle.probs.specs.Sum.{closedSum, lnSum};
+ghost use Rattle.lists.specs.Lists.{over};
+ghost use Rattle.probs.specs.Sum.{lnSum};
+ghost use Rattle.probs.specs.inner.Open.{opened};
 ghost use Rattle.model.specs.Lent.{lent};
-ghost use Rattle.model.specs.Model.{sampleAt};
-ghost use Rattle.likelihood.specs.Inner as Inner;
-ghost use Rattle.likelihood.specs.Inner.{Readable, term, ending, Starting, Begun, Ready, cellOf, Following, Opened};
-ghost use Rattle.likelihood.specs.Inner.{Continuing, Stepped, timeOf, Walkable, Filled, Closing, lastSum, Valued};
 ghost use Rattle.likelihood.specs.Call.{checked, Forward, Backward};
+ghost use Rattle.likelihood.specs.inner.Sum as Sum;
+ghost use Rattle.likelihood.specs.inner.Sum.{term, Readable, ending, lastSum, Closing};
+ghost use Rattle.likelihood.specs.inner.Row.{Starting, Begun, cellTerm, Fitting, Opened, Stepped};
+ghost use Rattle.emission.specs.inner.Row.{Symbols};
+ghost use Rattle.likelihood.specs.inner.Walk.{symbolic, Walkable, timeOf, Filled, Valued};
+ghost use Rattle.likelihood.specs.inner.Call.{Answered};
 
 // Which entries of a table a sum reads: from which place on, and how far apart.
 struct Stride(usize, usize);
@@ -36,7 +38,7 @@ struct Stride(usize, usize);
 // Entry k of those.
 fn strided(table: &[f64], stride: Stride, k: usize) -> f64
     requires { ⌜ k * (stride .1) + stride .0 < length (now table) ⌝ }
-    ensures { λ r. ⌜ r ≡ Inner.strided (now (table .entry)) stride k ⌝ }
+    ensures { λ r. ⌜ r ≡ Sum.strided (now (table .entry)) stride k ⌝ }
 {
     entry(table, k * stride.1 + stride.0)
 }
@@ -44,7 +46,7 @@ fn strided(table: &[f64], stride: Stride, k: usize) -> f64
 // The sum over the states k of (row k + arc k) + emission k, before its logarithm is taken.
 fn row_sum(row: &[f64], arcs: &[f64], arc: Stride, emissions: &[f64], emission: Stride) -> Open
     requires { ⌜ Readable (now row) (now arcs) arc (now emissions) emission ⌝ }
-    ensures { λ r. ⌜ closedSum r ≡ lnSum (length (now (row .entry)))
+    ensures { λ r. ⌜ r ≡ opened (length (now (row .entry)))
         (term (now (row .entry)) (now (arcs .entry)) arc (now (emissions .entry)) emission) ⌝ }
 {
     let n = row.len();
@@ -106,8 +108,9 @@ fn cell(
     states: usize,
     j: usize,
 ) -> Open
-    requires { ⌜ Ready states (now row) (now transition) (now emissions) j ⌝ }
-    ensures { λ r. ⌜ closedSum r ≡ cellOf back states (now (transition .entry)) (now (emissions .entry)) (now (row .entry)) j ⌝ }
+    requires { ⌜ Fitting states (now transition) (now emissions) ⌝ }
+    requires { ⌜ (length (now row) ≡ states) × (j < states) ⌝ }
+    ensures { λ r. ⌜ r ≡ opened states (cellTerm back states (now (transition .entry)) (now (emissions .entry)) (now (row .entry)) j) ⌝ }
 {
     if back {
         return row_sum(
@@ -135,9 +138,10 @@ fn open_row(
     emissions: &[f64],
     states: usize,
 ) -> OpenRow
-    requires { ⌜ Following states (now row) (now transition) (now emissions) ⌝ }
+    requires { ⌜ Fitting states (now transition) (now emissions) ⌝ }
+    requires { ⌜ length (now row) ≡ states ⌝ }
     ensures { λ r. ⌜ Opened states (r .values) (r .sums)
-        (cellOf back states (now (transition .entry)) (now (emissions .entry)) (now (row .entry))) states ⌝ }
+        (cellTerm back states (now (transition .entry)) (now (emissions .entry)) (now (row .entry))) ⌝ }
 {
     let mut values = [0.0; 64];
     let mut sums = [0.0; 64];
@@ -160,7 +164,8 @@ fn next_row(
     emissions: &[f64],
     states: usize,
 )
-    requires { ⌜ Continuing states (now values) at (now transition) (now emissions) ⌝ }
+    requires { ⌜ Fitting states (now transition) (now emissions) ⌝ }
+    requires { ⌜ at + states + states ≤ length (now values) ⌝ }
     ensures { λ _. ⌜ Stepped back states at (now (transition .entry)) (now (emissions .entry))
         (now (values .entry)) (now (values .exit)) ⌝ }
 {
@@ -176,15 +181,15 @@ fn next_row(
     }
 }
 
-// The sample whose emissions enter row i + 1.
-fn sample_of(back: bool, samples: &[u16], i: usize) -> usize
-    requires { ⌜ i + 1 < length (now samples) ⌝ }
-    ensures { λ r. ⌜ r ≡ sampleAt (now (samples .entry)) (timeOf back (length (now (samples .entry))) i) ⌝ }
+// The time of the sample whose emissions enter row i + 1, of as many samples.
+fn time_of(back: bool, samples: usize, i: usize) -> usize
+    requires { ⌜ i + 1 < samples ⌝ }
+    ensures { λ r. ⌜ r ≡ timeOf back samples i ⌝ }
 {
     if back {
-        return samples[samples.len() - 1 - i] as usize;
+        return samples - 1 - i;
     }
-    samples[i + 1] as usize
+    i + 1
 }
 
 // All rows.
@@ -198,20 +203,16 @@ fn walk(
     samples: &[u16],
     values: &mut [f64],
 )
-    requires { ⌜ Walkable (lent shape (now transition) (now emission) (now initial) (now end) (now samples)) (length (now values)) ⌝ }
+    requires { ⌜ Walkable (shape .states) (length (now samples)) (now transition) (now initial) (now end) (now values) ⌝ }
+    requires { ⌜ Symbols (shape .states) (shape .symbols) (now emission) (now samples) ⌝ }
     ensures { λ _. ⌜ Filled back
-        (lent shape (now (transition .entry)) (now (emission .entry)) (now (initial .entry)) (now (end .entry)) (now (samples .entry)))
+        (symbolic shape (now (transition .entry)) (now (emission .entry)) (now (initial .entry)) (now (end .entry)) (now (samples .entry)))
+        (length (now (samples .entry)))
         (now (values .entry)) (now (values .exit)) ⌝ }
 {
     let states = shape.states;
     let mut emissions = [0.0; 64];
-    lay_emissions(
-        emission,
-        states,
-        shape.symbols,
-        samples[0] as usize,
-        &mut emissions,
-    );
+    lay_emissions(emission, states, shape.symbols, samples, 0, &mut emissions);
     begin(back, initial, end, &emissions[..states], values);
     let mut i = 0;
     let mut at = 0;
@@ -220,7 +221,8 @@ fn walk(
             emission,
             states,
             shape.symbols,
-            sample_of(back, samples, i),
+            samples,
+            time_of(back, samples.len(), i),
             &mut emissions,
         );
         next_row(back, values, at, transition, &emissions[..states], states);
@@ -251,9 +253,11 @@ fn value_of(
     samples: &[u16],
     values: &mut [f64],
 ) -> f64
-    requires { ⌜ Walkable (lent shape (now transition) (now emission) (now initial) (now end) (now samples)) (length (now values)) ⌝ }
+    requires { ⌜ Walkable (shape .states) (length (now samples)) (now transition) (now initial) (now end) (now values) ⌝ }
+    requires { ⌜ Symbols (shape .states) (shape .symbols) (now emission) (now samples) ⌝ }
     ensures { λ r. ⌜ Valued back
-        (lent shape (now (transition .entry)) (now (emission .entry)) (now (initial .entry)) (now (end .entry)) (now (samples .entry)))
+        (symbolic shape (now (transition .entry)) (now (emission .entry)) (now (initial .entry)) (now (end .entry)) (now (samples .entry)))
+        (length (now (samples .entry)))
         (now (values .entry)) r (now (values .exit)) ⌝ }
 {
     walk(
@@ -268,19 +272,13 @@ fn value_of(
     );
     let states = shape.states;
     let mut emissions = [0.0; 64];
-    lay_emissions(
-        emission,
-        states,
-        shape.symbols,
-        samples[0] as usize,
-        &mut emissions,
-    );
+    lay_emissions(emission, states, shape.symbols, samples, 0, &mut emissions);
     let at = (samples.len() - 1) * states;
     let to = at + states;
     last_sum(back, &values[at..to], initial, end, &emissions[..states])
 }
 
-// The checks 1 to 8 of either walk: values is the length of output 5.
+// The checks of either walk: values is the length of output 5.
 fn check(
     needs_sample: bool,
     shape: Shape,
@@ -307,11 +305,60 @@ fn check(
     if !is_done(sizes) {
         return sizes;
     }
-    let output = check_output(5, samples.len() * shape.states, values);
-    if !is_done(output) {
-        return output;
+    let places = samples.len() * shape.states;
+    check_rest(
+        shape,
+        transition,
+        emission,
+        initial,
+        end,
+        samples,
+        &[places],
+        &[values],
+    )
+}
+
+// The answer of either walk. Of no samples, which the checks of the backward walk alone let through, it is minus infinity.
+fn answer_of(
+    back: bool,
+    shape: Shape,
+    transition: &[f64],
+    emission: &[f64],
+    initial: &[f64],
+    end: &[f64],
+    samples: &[u16],
+    values: &mut [f64],
+) -> Answer
+    ensures { λ r. ⌜ Answered back
+        (lent shape (now (transition .entry)) (now (emission .entry)) (now (initial .entry)) (now (end .entry)) (now (samples .entry)))
+        (now (values .entry)) r (now (values .exit)) ⌝ }
+{
+    let checked = check(
+        !back,
+        shape,
+        transition,
+        emission,
+        initial,
+        end,
+        samples,
+        values.len(),
+    );
+    if !is_done(checked) {
+        return checked;
     }
-    check_entries(shape, transition, emission, initial, end, samples)
+    if samples.len() == 0 {
+        return done(minus_infinity());
+    }
+    done(value_of(
+        back,
+        shape,
+        transition,
+        emission,
+        initial,
+        end,
+        samples,
+        values,
+    ))
 }
 
 // The likelihood of the samples, by the forward walk. Row t of the values becomes alpha at sample t, a state a place, and their surplus
@@ -329,22 +376,8 @@ pub fn forward(
         (lent shape (now (transition .entry)) (now (emission .entry)) (now (initial .entry)) (now (end .entry)) (now (samples .entry)))
         (now (values .entry)) r (now (values .exit)) ⌝ }
 {
-    let needs_sample = true;
-    let checked = check(
-        needs_sample,
-        shape,
-        transition,
-        emission,
-        initial,
-        end,
-        samples,
-        values.len(),
-    );
-    if !is_done(checked) {
-        return checked;
-    }
     let back = false;
-    done(value_of(
+    answer_of(
         back,
         shape,
         transition,
@@ -353,7 +386,7 @@ pub fn forward(
         end,
         samples,
         values,
-    ))
+    )
 }
 
 // The likelihood of the samples, by the backward walk. Row i of the values becomes beta at sample T-1-i, a state a place, and their
@@ -371,25 +404,8 @@ pub fn backward(
         (lent shape (now (transition .entry)) (now (emission .entry)) (now (initial .entry)) (now (end .entry)) (now (samples .entry)))
         (now (values .entry)) r (now (values .exit)) ⌝ }
 {
-    let needs_sample = false;
-    let checked = check(
-        needs_sample,
-        shape,
-        transition,
-        emission,
-        initial,
-        end,
-        samples,
-        values.len(),
-    );
-    if !is_done(checked) {
-        return checked;
-    }
-    if samples.len() == 0 {
-        return done(minus_infinity());
-    }
     let back = true;
-    done(value_of(
+    answer_of(
         back,
         shape,
         transition,
@@ -398,5 +414,5 @@ pub fn backward(
         end,
         samples,
         values,
-    ))
+    )
 }

@@ -1,4 +1,2 @@
-pub mod Tests
-pub mod Done
 pub mod Entries
-pub mod FirstRow
+pub mod Low

@@ -1,6 +1,4 @@
 pub mod Lent
 pub mod Good
-pub mod Checks
-pub mod Accepted
 pub mod Model
-pub mod Row
+pub mod Accepted

@@ -1,30 +1,24 @@
--- Nothing leaves the kernels' domains: a sum of numbers takes exp at 0 or below and ln at 1 or above. Assumes nothing.
+-- Nothing leaves the kernels' domains: a sum of numbers takes exp at 0 or below and ln at 1 or above.
 use Prim.Native.Nat.{ℕ, zero, suc, _<_}
 use mathlib.Core.Path.{_≡_}
-use mathlib.Core.Bool.{Bool, true, false, true≢false, cond, _||_}
+use mathlib.Core.Bool.{Bool, true, false, cond, _||_}
 use lib.Dec.{T, eqb}
-use lib.Ieee.{Float, nan, inf, fin, binary64, le, eq, isNan}
-use lib.Ieee.Scale.{finite}
-use Rattle.order.specs.Float.{_⊕_, _⊖_, nought, one, isNumber, isMinusInfinity, nonneg}
-use Rattle.order.proofs.Sub.{sub-nonpos}
-use Rattle.order.proofs.Sign.{add-nonneg}
-use Rattle.order.proofs.Unit.{one-plus}
+use lib.Ieee.{Float, binary64, le}
+use Rattle.floats.specs.Float.{_⊕_, _⊖_, nought, one, isMinusInfinity, isInfinite}
+use Rattle.floats.specs.inner.Sign.{nonneg}
+use Rattle.floats.proofs.Sub.{sub-nonpos}
+use Rattle.floats.proofs.Finite.{number-finite}
+use Rattle.floats.proofs.Sign.{add-nonneg}
+use Rattle.floats.proofs.Unit.{one-plus}
 use Rattle.kernels.specs.Exp.{expOf}
 use Rattle.kernels.proofs.ExpLaws.{exp-nonneg}
-use Rattle.probs.specs.Sum.{isInfinite, Numbers, peak, plusExp, expSum}
+use Rattle.probs.specs.Sum.{Numbers, peak, plusExp, expSum}
 use Rattle.probs.specs.declared.sum.Peak.{Peak}
 use Rattle.probs.proofs.Peaks.{peak-number, peak-top}
 
-pub finite-is : (x : Float) → T (isNumber x) → isInfinite x ≡ false → T (finite x)
-unfolding isInfinite eq isNan
-finite-is nan h e = absurd h
-finite-is (inf true) h e = absurd (true≢false e)
-finite-is (inf false) h e = absurd (true≢false e)
-finite-is (fin s m d) h e = tt
-
 -- exp is taken at x - p, p being the first greatest of numbers, where it is finite
 pub exp-domain : (n : ℕ) (f : ℕ → Float) → Numbers n f → isInfinite (peak n f .value) ≡ false → (k : ℕ) → k < n → T (le (f k ⊖ peak n f .value) nought)
-exp-domain n f h e k l = sub-nonpos binary64 (f k) (peak n f .value) (finite-is (peak n f .value) (peak-number n f h) e) (peak-top n f h k l)
+exp-domain n f h e k l = sub-nonpos binary64 (f k) (peak n f .value) (number-finite (peak n f .value) (peak-number n f h) e) (peak-top n f h k l)
 
 -- ---- the sum of the exponentials is not negative
 -- a property of the sum that stays, and of the one that exp is added to

@@ -1,4 +1,4 @@
--- The two PHRED factors: each literal of the code is the f64 nearest to its decimal. Assumes nothing.
+-- The two PHRED factors: each literal of the code is the f64 nearest to its decimal.
 use mathlib.Core.Path.{_≡_, refl}
 use lib.Ieee.{binary64, ofBits, round, size, neg}
 use Rattle.probs.specs.Calls.{logToPhred, phredToLog}

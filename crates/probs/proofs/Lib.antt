@@ -1,5 +1,5 @@
-pub mod Largest
 pub mod Loops
+pub mod Terms
 pub mod Peaks
 pub mod Domains
 pub mod Bounds

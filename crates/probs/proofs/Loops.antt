@@ -1,12 +1,13 @@
--- The two loops of a sum over n terms, a turn at a time: what each knows at place k, and what the sum is once both are done. Assumes nothing.
+-- The two loops of a sum over n terms, a turn at a time: what each knows at place k, and what the sum is once both are done.
 use Prim.Native.Nat.{ℕ, zero, suc, _+_, _≤_, _<_}
 use native.Mathlib.Nat.{lt-suc-self}
 use native.Mathlib.Numerals.{add-one}
 use native.Mathlib.Omega.{arith}
 use mathlib.Core.Path.{_≡_, refl, ap, _∙_}
 use lib.Ieee.{Float}
-use Rattle.order.specs.Float.{nought, minusInfinity}
-use Rattle.probs.specs.Sum.{noPeak, raised, peak, plusExp, expSum, closed, opened, closedSum, lnSum}
+use Rattle.floats.specs.Float.{nought, minusInfinity}
+use Rattle.probs.specs.Sum.{noPeak, raised, peak, plusExp, expSum, grown, lnSum}
+use Rattle.probs.specs.inner.Open.{opened, closedSum}
 use Rattle.probs.specs.Pair.{lnAdd, lnCumsum}
 use Rattle.probs.specs.declared.sum.Peak.{Peak}
 use Rattle.probs.specs.declared.sum.Open.{Open}
@@ -46,7 +47,7 @@ module _ (n : ℕ) (f : ℕ → Float) where
   pass2-done p s k inv h = let e : k ≡ n = omega arith in inv .is ∙ ap (λ (i : ℕ). expSum p i f) e
 
   -- what the two come to
-  pub sum-done : (p : Peak) (s r : Float) → p ≡ peak n f → s ≡ expSum p n f → r ≡ closed p s → r ≡ lnSum n f
+  pub sum-done : (p : Peak) (s r : Float) → p ≡ peak n f → s ≡ expSum p n f → r ≡ grown p s → r ≡ lnSum n f
   unfolding lnSum
   sum-done p s r d e g = rw (g, e, d)
 
@@ -55,7 +56,7 @@ module _ (n : ℕ) (f : ℕ → Float) where
   opened-done p s d e = rw (e, d)
 
   pub closed-done : (o : Open) → o ≡ opened n f → closedSum o ≡ lnSum n f
-  unfolding opened closedSum closed lnSum
+  unfolding opened closedSum grown lnSum
   closed-done o e = rw e
 
 -- ---- the terms matter below n only

@@ -1,12 +1,13 @@
--- The four ways out of `cap_numerical_overshoot`, by its tests: a NaN epsilon, a value at most 0, one within epsilon of 0, any other. Assumes nothing.
+-- The four ways out of `cap_numerical_overshoot`, by its tests: a NaN epsilon, a value at most 0, one within epsilon of 0, any other.
 use mathlib.Core.Path.{_≡_, refl, sym, ap, _∙_}
 use mathlib.Core.Bool.{Bool, true, false, not, cond, _&&_, _||_}
 use borrow.Author.Tests.{not-true, not-false}
 use lib.Dec.{T}
 use lib.Ieee.{Float, nan, inf, fin, add, sub, lt, le, isNan}
-use Rattle.order.specs.Float.{_⊖_, nought, isNumber}
-use Rattle.order.proofs.Order.{le-left, not-lt, not-le}
+use Rattle.floats.specs.Float.{_⊖_, nought, isNumber}
+use Rattle.floats.proofs.Order.{le-left, not-lt, not-le}
 use Rattle.answer.specs.Answer.{done, refuse}
+use Rattle.answer.specs.declared.Answer.{Answer}
 use Rattle.answer.specs.declared.Refusal.the-variants.{Overshoot}
 use Rattle.probs.specs.Calls.{capAnswer}
 
@@ -33,11 +34,15 @@ above : (x : Float) → T (isNumber x) → le x nought ≡ false → lt nought x
 above x n h = sym (not-le x nought n nought-number) ∙ ap not h
 
 module _ (x epsilon : Float) where
+  -- what is answered, by whether it overshoots
+  abbrev ended : Bool → Answer
+  ended b = cond b (refuse Overshoot 0 0) (done (cond (le x nought) x nought))
+
   pub nan-epsilon : isNumber epsilon ≡ false → capAnswer x epsilon ≡ refuse Overshoot 0 0
   unfolding capAnswer
   nan-epsilon h = rw (not-false (isNan epsilon) h) (go (isNan x))
     where
-      go : (b : Bool) → cond ((b || true) || (lt nought x && not (le (x ⊖ epsilon) nought))) (refuse Overshoot 0 0) (done (cond (le x nought) x nought)) ≡ refuse Overshoot 0 0
+      go : (b : Bool) → ended ((b || true) || (lt nought x && not (le (x ⊖ epsilon) nought))) ≡ refuse Overshoot 0 0
       go true = refl
       go false = refl
 
@@ -59,6 +64,6 @@ module _ (x epsilon : Float) where
     unfolding capAnswer
     out-of-reach h k = rw (not-true (isNan epsilon) number, k) (go (isNan x) (λ n. above x n h))
       where
-        go : (b : Bool) → (T (not b) → lt nought x ≡ true) → cond ((b || false) || (lt nought x && true)) (refuse Overshoot 0 0) (done (cond (le x nought) x nought)) ≡ refuse Overshoot 0 0
+        go : (b : Bool) → (T (not b) → lt nought x ≡ true) → ended ((b || false) || (lt nought x && true)) ≡ refuse Overshoot 0 0
         go true a = refl
         go false a = rw (a tt)

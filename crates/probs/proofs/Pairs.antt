@@ -1,4 +1,4 @@
--- `ln_add_exp` and `ln_sub_exp` of two numbers: numbers themselves, bounded as a sum is, and inside the kernels' domains. Assumes nothing.
+-- `ln_add_exp` and `ln_sub_exp` of two numbers: numbers themselves, bounded as a sum is, and inside the kernels' domains.
 use Prim.Native.Nat.{ℕ, zero, suc}
 use native.Mathlib.Nat.{lt-suc-self}
 use mathlib.Core.Path.{_≡_, refl, subst}
@@ -7,27 +7,29 @@ use lib.Dec.{T}
 use lib.Ieee.{Float, nan, inf, fin, binary64, lt, le, eq, fits, isNan}
 use lib.Ieee.Fits.{add-fits}
 use lib.Ieee.Scale.{finite}
-use Rattle.order.specs.Float.{_⊕_, _⊖_, nought, one, minusInfinity, isNumber, isMinusInfinity, capped}
-use Rattle.order.proofs.Order.{le-left, le-right, le-self, le-le, le-antisym, lt-le, eq-le, not-lt, bottom-le}
-use Rattle.order.proofs.Add.{add-num, add-le, capped-le}
-use Rattle.order.proofs.Sub.{sub-nonpos}
+use Rattle.floats.specs.Float.{_⊕_, _⊖_, nought, one, minusInfinity, isNumber, isMinusInfinity, isPlusInfinity, isInfinite, capped}
+use Rattle.floats.specs.inner.Sign.{nonneg}
+use Rattle.floats.proofs.Order.{le-left, le-right, le-self, le-le, le-antisym, lt-le, eq-le, not-lt, bottom-le}
+use Rattle.floats.proofs.Add.{add-num, add-le, capped-le}
+use Rattle.floats.proofs.Sub.{sub-nonpos}
+use Rattle.floats.proofs.Finite.{number-capped, number-finite}
+use Rattle.floats.proofs.Largest.{largest, capped-largest}
+use Rattle.floats.proofs.Ceiling.{Ceiling}
 use Rattle.kernels.specs.Exp.{expOf}
 use Rattle.kernels.specs.Ln.{lnOf}
 use Rattle.kernels.specs.Ln1m.{ln1mOf}
 use Rattle.kernels.proofs.ExpLaws.{exp-nonneg, exp-le-one}
 use Rattle.kernels.proofs.Ln1mLaws.{ln1m-nonpos}
-use Rattle.kernels.proofs.LnLaws.{two53}
-use Rattle.probs.specs.Sum.{isPlusInfinity, isInfinite, Numbers}
+use Rattle.kernels.proofs.LnLaws.{two53, sixty-four}
+use Rattle.probs.specs.Sum.{Numbers}
 use Rattle.probs.specs.Pair.{lnAddTo, lnAdd, relativeEq, lnSub, lnCumsum}
-use Rattle.probs.proofs.Largest.{largest, capped-largest}
 use Rattle.probs.proofs.Peaks.{fewer}
-use Rattle.probs.proofs.Domains.{finite-is}
-use Rattle.probs.proofs.Bounds.{Small, Ceiling, largest-ceiling, grown-number, grown-above, grown-below}
+use Rattle.probs.proofs.Bounds.{largest-ceiling, grown-number, grown-above, grown-below}
 
 -- ---- ln_add_exp
--- one exponential is a sum of exponentials
-exp-small : (d : Float) → Small (expOf d)
-exp-small d = record { low = exp-nonneg d; high = le-le (expOf d) one two53 (exp-le-one d) (unfold le lt in tt) }
+-- one exponential is small enough for a sum of them
+exp-most : (d : Float) → T (le (expOf d) two53)
+exp-most d = le-le (expOf d) one two53 (exp-le-one d) (unfold le lt in tt)
 
 -- a property of the greater number, and of what is made of it
 addTo-keeps : (P : Float → Type 0) (p0 p1 : Float) → P p0 → (isInfinite p0 ≡ false → P (p0 ⊕ lnOf (one ⊕ expOf (p1 ⊖ p0)))) → P (lnAddTo p0 p1)
@@ -39,7 +41,8 @@ addTo-keeps P p0 p1 h g = go (isInfinite p0) g
     go false i = i refl
 
 -- a property of the first, where the second is minus infinity, and of the greater with the smaller
-lnAdd-keeps : (P : Float → Type 0) (x y : Float) → (T (isMinusInfinity y) → P x) → (T (lt x y) → P (lnAddTo y x)) → (T (not (lt x y)) → P (lnAddTo x y)) → P (lnAdd x y)
+lnAdd-keeps : (P : Float → Type 0) (x y : Float) → (T (isMinusInfinity y) → P x) → (T (lt x y) → P (lnAddTo y x))
+    → (T (not (lt x y)) → P (lnAddTo x y)) → P (lnAdd x y)
 unfolding lnAdd
 lnAdd-keeps P x y a b c = go (isMinusInfinity y) (lt x y) a b c
   where
@@ -48,25 +51,37 @@ lnAdd-keeps P x y a b c = go (isMinusInfinity y) (lt x y) a b c
     go false true i j k = j tt
     go false false i j k = k tt
 
-addTo-number : (p0 p1 : Float) → T (isNumber p0) → T (isNumber (lnAddTo p0 p1))
-addTo-number p0 p1 h = addTo-keeps (λ (z : Float). T (isNumber z)) p0 p1 h (λ e. grown-number (expOf (p1 ⊖ p0)) (exp-small (p1 ⊖ p0)) p0 (finite-is p0 h e))
+module _ (p0 p1 : Float) where
+  abbrev smaller : Float
+  smaller = expOf (p1 ⊖ p0)
 
-addTo-above : (p0 p1 : Float) → T (isNumber p0) → T (fits binary64 p0) → T (le p0 (lnAddTo p0 p1))
-addTo-above p0 p1 h g =
-    addTo-keeps (λ (z : Float). T (le p0 z)) p0 p1 (le-self p0 h) (λ e. grown-above (expOf (p1 ⊖ p0)) (exp-small (p1 ⊖ p0)) p0 (finite-is p0 h e) g)
+  low : T (nonneg smaller)
+  low = exp-nonneg (p1 ⊖ p0)
 
-addTo-below : {B : Float} → Ceiling B → (p0 p1 : Float) → T (le p0 B) → T (le (lnAddTo p0 p1) B)
-addTo-below {B} c p0 p1 h = addTo-keeps (λ (z : Float). T (le z B)) p0 p1 h (λ _. grown-below (expOf (p1 ⊖ p0)) (exp-small (p1 ⊖ p0)) c p0 h)
+  high : T (le smaller two53)
+  high = exp-most (p1 ⊖ p0)
 
-addTo-fits : (p0 p1 : Float) → T (fits binary64 p0) → T (fits binary64 (lnAddTo p0 p1))
-addTo-fits p0 p1 h = addTo-keeps (λ (z : Float). T (fits binary64 z)) p0 p1 h (λ _. add-fits binary64 p0 _)
+  addTo-number : T (isNumber p0) → T (isNumber (lnAddTo p0 p1))
+  addTo-number h =
+      addTo-keeps (λ (z : Float). T (isNumber z)) p0 p1 h (λ e. grown-number smaller low high p0 (number-finite p0 h e))
+
+  addTo-above : T (isNumber p0) → T (fits binary64 p0) → T (le p0 (lnAddTo p0 p1))
+  addTo-above h g =
+      addTo-keeps (λ (z : Float). T (le p0 z)) p0 p1 (le-self p0 h)
+      (λ e. grown-above smaller low high p0 (number-finite p0 h e) g)
+
+  addTo-below : {B : Float} → Ceiling B sixty-four → T (le p0 B) → T (le (lnAddTo p0 p1) B)
+  addTo-below {B} c h = addTo-keeps (λ (z : Float). T (le z B)) p0 p1 h (λ _. grown-below smaller low high c p0 h)
+
+  addTo-fits : T (fits binary64 p0) → T (fits binary64 (lnAddTo p0 p1))
+  addTo-fits h = addTo-keeps (λ (z : Float). T (fits binary64 z)) p0 p1 h (λ _. add-fits binary64 p0 _)
 
 module _ (x y : Float) where
   pub lnAdd-fits : T (fits binary64 x) → T (fits binary64 y) → T (fits binary64 (lnAdd x y))
   lnAdd-fits h k = lnAdd-keeps (λ (z : Float). T (fits binary64 z)) x y (λ _. h) (λ _. addTo-fits y x k) (λ _. addTo-fits x y h)
 
-  pub lnAdd-below : {B : Float} → Ceiling B → T (le x B) → T (le y B) → T (le (lnAdd x y) B)
-  lnAdd-below {B} c h k = lnAdd-keeps (λ (z : Float). T (le z B)) x y (λ _. h) (λ _. addTo-below c y x k) (λ _. addTo-below c x y h)
+  pub lnAdd-below : {B : Float} → Ceiling B sixty-four → T (le x B) → T (le y B) → T (le (lnAdd x y) B)
+  lnAdd-below {B} c h k = lnAdd-keeps (λ (z : Float). T (le z B)) x y (λ _. h) (λ _. addTo-below y x c k) (λ _. addTo-below x y c h)
 
   -- neither NaN nor +inf, where neither number is
   pub lnAdd-capped : T (capped x) → T (capped y) → T (fits binary64 x) → T (fits binary64 y) → T (capped (lnAdd x y))
@@ -89,7 +104,7 @@ module _ (x y : Float) where
 
     -- exp is taken at 0 or below
     pub add-domain : T (not (lt x y)) → isInfinite x ≡ false → T (le (y ⊖ x) nought)
-    add-domain l e = sub-nonpos binary64 y x (finite-is x h e) (at-most l)
+    add-domain l e = sub-nonpos binary64 y x (number-finite x h e) (at-most l)
 
 pub lnCumsum-number : (n : ℕ) (f : ℕ → Float) → Numbers n f → T (isNumber (lnCumsum n f))
 unfolding lnCumsum isNan
@@ -97,13 +112,6 @@ lnCumsum-number zero f h = tt
 lnCumsum-number (suc n) f h = lnAdd-number (lnCumsum n f) (f n) (lnCumsum-number n f (fewer n f h)) (h n (lt-suc-self n))
 
 -- ---- ln_sub_exp, of p1 at most p0
-number-capped : (x : Float) → T (isNumber x) → isPlusInfinity x ≡ false → T (capped x)
-unfolding isNan eq
-number-capped nan n i = absurd n
-number-capped (inf true) n i = tt
-number-capped (inf false) n i = absurd (true≢false i)
-number-capped (fin s m d) n i = tt
-
 -- above a number that is not minus infinity
 finite-above : (x y : Float) → T (le x y) → isMinusInfinity x ≡ false → isPlusInfinity y ≡ false → T (finite y)
 unfolding isNan eq

@@ -1,4 +1,4 @@
--- `peak` of n numbers is document 01's "first greatest entry", and no other is. Assumes nothing.
+-- `peak` of n numbers is their first greatest entry (RULES 5.2), and no other is.
 use Prim.Native.Nat.{ℕ, zero, suc, _≤_, _<_}
 use native.Mathlib.Nat.{eq-or-lt-of-le, le-of-suc-le-suc, not-suc-le-zero, lt-suc-self}
 use native.Mathlib.Omega.{arith}
@@ -7,8 +7,8 @@ use mathlib.Core.Logic.{⊎-elim}
 use mathlib.Core.Bool.{Bool, true, false, not, cond}
 use lib.Dec.{T, T-not}
 use lib.Ieee.{Float, nan, inf, fin, lt, le, isNan}
-use Rattle.order.specs.Float.{isNumber, minusInfinity}
-use Rattle.order.proofs.Order.{le-left, le-self, le-le, lt-le, le-lt-lt, lt-le-lt, not-lt}
+use Rattle.floats.specs.Float.{isNumber, minusInfinity}
+use Rattle.floats.proofs.Order.{le-left, le-self, le-le, lt-le, le-lt-lt, lt-le-lt, not-lt}
 use Rattle.probs.specs.Sum.{Numbers, FirstGreatest, raised, peak}
 use Rattle.probs.specs.declared.sum.Peak.{Peak}
 

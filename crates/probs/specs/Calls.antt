@@ -1,5 +1,5 @@
--- What each call answers: "NaN is refusal 7 .. In a leaf or kernel the table is 0 and the place is the argument's number from 0, or the index in a
--- slice, whose length is free." exp, ln and ln_1m_exp answer as the kernels do.
+-- What each leaf answers (RULES 5). A NaN is refusal 7 at table 0; the place is the argument's number from 0, or the index in a slice,
+-- whose length is free. exp, ln and ln_1m_exp answer as the kernels do.
 use Prim.Native.Nat.{ℕ, _+_}
 use mathlib.Core.Path.{_≡_}
 use mathlib.Core.Bool.{Bool, cond, not, _&&_, _||_}
@@ -7,8 +7,8 @@ use mathlib.Core.List.{List, [], _∷_}
 use lib.Dec.{ltb}
 use lib.ListN.{length}
 use lib.Ieee.{Float, binary64, mul, neg, lt, le, isNan}
-use Rattle.order.specs.Float.{_⊖_, nought, one, isNumber, at}
-use Rattle.rows.specs.Lists.{tab, after, firstBad, someBad}
+use Rattle.floats.specs.Float.{_⊖_, nought, one, isNumber, at}
+use Rattle.lists.specs.Lists.{tab, after, firstBad, someBad}
 use Rattle.answer.specs.Answer.{done, refuse, isDone}
 use Rattle.answer.specs.declared.Answer.{Answer}
 use Rattle.answer.specs.declared.Refusal.the-variants.{OutputTooShort, NotGood, NegativeDifference, Overshoot}
@@ -24,14 +24,14 @@ unlessNan xs a = cond (someBad isNumber xs) (refuse NotGood 0 (firstBad isNumber
 abbrev pub isValid : Float → Bool
 isValid x = le x nought
 
--- "`Prob::checked` (0 to 1)", "7 also outside 0 to 1"
+-- RULES 5.6: `Prob::checked` takes 0 to 1
 abbrev pub isProbability : Float → Bool
 isProbability p = le nought p && le p one
 
 unfoldable pub checkedAnswer : Float → Answer
 checkedAnswer p = cond (isProbability p) (done p) (refuse NotGood 0 0)
 
--- 11: "value above 0 and value - epsilon not at most 0 (so +inf with +inf), or NaN in either"
+-- RULES 5.6: 11 where either is NaN, and where x is above 0 and x - epsilon not at most 0, so with +inf and +inf
 abbrev pub overshoots : Float → Float → Bool
 overshoots x epsilon = isNan x || isNan epsilon || (lt nought x && not (le (x ⊖ epsilon) nought))
 
@@ -44,11 +44,11 @@ lnSumExpAnswer probs = unlessNan probs (done (lnSum (length probs) (at probs)))
 abbrev pub lnAddExpAnswer : Float → Float → Answer
 lnAddExpAnswer x y = unlessNan (x ∷ y ∷ []) (done (lnAdd x y))
 
--- "p0 < p1 is 10"
+-- RULES 5.4: 7 comes before 10
 abbrev pub lnSubExpAnswer : Float → Float → Answer
 lnSubExpAnswer p0 p1 = unlessNan (p0 ∷ p1 ∷ []) (cond (lt p0 p1) (refuse NegativeDifference 0 0) (done (lnSub p0 p1)))
 
--- "into output 5 (value: the last sum, minus infinity if empty)"; room is the output's length
+-- RULES 5.5: 6 comes before 7, and the value is the last sum; room is the length of output 5
 unfoldable pub lnCumsumExpAnswer : List Float → ℕ → Answer
 lnCumsumExpAnswer probs room =
     cond (ltb room (length probs)) (refuse OutputTooShort 5 room) (unlessNan probs (done (lnCumsum (length probs) (at probs))))
@@ -61,7 +61,7 @@ pub record Cumulated (probs sums sums' : List Float) (r : Answer) : Type 0 where
   pub answer : r ≡ lnCumsumExpAnswer probs (length sums)
   pub output : sums' ≡ after (isDone (lnCumsumExpAnswer probs (length sums))) (cumsums probs) sums
 
--- "one product each with the Rust's factor": -4.3429448190325175 and -0.23025850929940456
+-- RULES 5.7: one product each, with the Rust's factors -4.3429448190325175 and -0.23025850929940456
 unfoldable pub logToPhred : Float
 logToPhred = neg (decimal 43429448190325175 16)
 

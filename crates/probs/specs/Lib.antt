@@ -1,3 +1,4 @@
 pub mod Sum
 pub mod Pair
 pub mod Calls
+pub mod inner

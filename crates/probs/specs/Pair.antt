@@ -1,25 +1,20 @@
--- `ln_add_exp` and `ln_sub_exp` of two numbers, as document 01 defines them, and the running sums of `ln_cumsum_exp`.
+-- `ln_add_exp` and `ln_sub_exp` of two numbers (RULES 5.3, 5.4), and the running sums of `ln_cumsum_exp` (RULES 5.5).
 use Prim.Native.Nat.{ℕ, zero, suc}
 use mathlib.Core.Bool.{Bool, false, cond, not, _&&_, _||_}
 use lib.IntN.{negsuc}
-use lib.Ieee.{Float, fin, binary64, mul, neg, lt, le, eq}
-use Rattle.order.specs.Float.{_⊕_, _⊖_, nought, one, minusInfinity, isMinusInfinity}
+use lib.Ieee.{Float, fin, binary64, mul, lt, le, eq}
+use Rattle.floats.specs.Float.{_⊕_, _⊖_, one, minusInfinity, isMinusInfinity, isPlusInfinity, isInfinite, magnitude}
 use Rattle.kernels.specs.Exp.{expOf}
 use Rattle.kernels.specs.Ln.{lnOf}
 use Rattle.kernels.specs.Ln1m.{ln1mOf}
-use Rattle.probs.specs.Sum.{isPlusInfinity, isInfinite}
 
--- "minus infinity gives itself, +inf gives +inf, else p0 + ln(1 + exp(p1 - p0))", p0 being the greater
+-- RULES 5.3: an infinite p0 gives itself, any other p0 + ln(1 + exp(p1 - p0)), p0 being the greater
 unfoldable pub lnAddTo : Float → Float → Float
 lnAddTo p0 p1 = cond (isInfinite p0) p0 (p0 ⊕ lnOf (one ⊕ expOf (p1 ⊖ p0)))
 
--- "if the second is minus infinity, the first. Else swap so that the greater is p0"
+-- where the second is minus infinity it is the first, else the greater one is taken for p0
 unfoldable pub lnAdd : Float → Float → Float
 lnAdd x y = cond (isMinusInfinity y) x (cond (lt x y) (lnAddTo y x) (lnAddTo x y))
-
--- |x|
-unfoldable pub magnitude : Float → Float
-magnitude x = cond (lt x nought) (neg x) x
 
 -- 2^-52
 abbrev pub epsilon : Float
@@ -29,15 +24,15 @@ epsilon = fin false 1 (negsuc 51)
 unfoldable pub larger : Float → Float → Float
 larger x y = cond (lt (magnitude x) (magnitude y)) (magnitude y) (magnitude x)
 
--- "|p0 - p1| at most 2^-52, or at most 2^-52 times the larger magnitude"
+-- RULES 5.4: their distance is at most 2^-52, or at most 2^-52 times the larger magnitude
 unfoldable pub isNear : Float → Float → Bool
 isNear p0 p1 = le (magnitude (p0 ⊖ p1)) epsilon || le (magnitude (p0 ⊖ p1)) (mul binary64 epsilon (larger p0 p1))
 
--- "Close means equal, or both finite and" near: the Rust's relative_eq!
+-- close: equal, or both finite and near. It is the Rust's relative_eq!
 unfoldable pub relativeEq : Float → Float → Bool
 relativeEq p0 p1 = eq p0 p1 || (not (isInfinite p0 || isInfinite p1) && isNear p0 p1)
 
--- "p1 minus infinity gives p0 .. Close gives minus infinity. p0 = +inf gives +inf. Else p0 + ln_1m_exp(p1 - p0)", p1 being at most p0
+-- RULES 5.4, lines 3 to 6: p1 is at most p0
 unfoldable pub lnSub : Float → Float → Float
 lnSub p0 p1 =
     cond (isMinusInfinity p1) p0

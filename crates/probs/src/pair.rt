@@ -1,11 +1,12 @@
 // ln_add_exp and ln_sub_exp of two bare f64, total: what the leaves answer where they do not refuse, and what a training pass calls.
-use crate::sum::is_infinite;
-use crate::sum::is_plus_infinity;
+use floats::is_infinite;
+use floats::is_minus_infinity;
+use floats::is_plus_infinity;
+use floats::magnitude;
+use floats::minus_infinity;
 use kernels::exp_of;
 use kernels::ln_1m_of;
 use kernels::ln_of;
-use order::is_minus_infinity;
-use order::minus_infinity;
 ghost use mathlib.Core.Path.{_≡_};
 ghost use Rattle.probs.specs.Pair as Pair;
 ghost use Rattle.probs.specs.Pair.{lnAddTo, lnAdd, isNear, relativeEq, lnSub};
@@ -36,13 +37,6 @@ pub fn ln_add(x: f64, y: f64) -> f64
 
 // 2^-52: the distance from 1 to the next f64.
 const EPSILON: f64 = 2.220446049250313e-16;
-
-// |x|
-fn magnitude(x: f64) -> f64
-    ensures { λ r. ⌜ r ≡ Pair.magnitude x ⌝ }
-{
-    if x < 0.0 { -x } else { x }
-}
 
 // The greater of |x| and |y|.
 fn larger(x: f64, y: f64) -> f64

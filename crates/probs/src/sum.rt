@@ -5,15 +5,16 @@
 // a caller with many terms, as those of a state over 4,096 samples, works each out again in the second pass. A term is a few additions
 // beside an exp, and a buffer would have to be lent, checked and wiped in every call. It reads tables that do not change in between, so
 // both passes meet the same bits. A caller whose terms lie in a slice already calls ln_sum, or open_sum and, later, close_sum.
+use floats::is_infinite;
+use floats::is_minus_infinity;
+use floats::minus_infinity;
 use kernels::exp_of;
 use kernels::ln_of;
-use order::is_minus_infinity;
-use order::minus_infinity;
 ghost use mathlib.Core.Path.{_≡_};
 ghost use lib.ListN.{length};
-ghost use Rattle.order.specs.Float.{at};
-ghost use Rattle.probs.specs.Sum.{isPlusInfinity, isInfinite, noPeak, raised, peak, plusExp, expSum};
-ghost use Rattle.probs.specs.Sum.{closed, opened, closedSum, lnSum};
+ghost use Rattle.floats.specs.Float.{at};
+ghost use Rattle.probs.specs.Sum.{noPeak, raised, peak, plusExp, expSum, grown, lnSum};
+ghost use Rattle.probs.specs.inner.Open.{opened, closedSum};
 
 // The first greatest of the terms so far, and its place among them.
 pub struct Peak {
@@ -64,26 +65,12 @@ pub fn plus_exp(peak: Peak, sum: f64, x: f64, k: usize) -> f64
 
 // What the two passes come to.
 pub fn close(peak: Peak, sum: f64) -> f64
-    ensures { λ r. ⌜ r ≡ closed peak sum ⌝ }
+    ensures { λ r. ⌜ r ≡ grown peak sum ⌝ }
 {
     if is_infinite(peak.value) {
         return peak.value;
     }
     peak.value + ln_of(1.0 + sum)
-}
-
-// Whether x is plus infinity.
-pub(crate) fn is_plus_infinity(x: f64) -> bool
-    ensures { λ r. ⌜ r ≡ isPlusInfinity x ⌝ }
-{
-    x == 1.0 / 0.0
-}
-
-// Whether x is either infinity.
-pub(crate) fn is_infinite(x: f64) -> bool
-    ensures { λ r. ⌜ r ≡ isInfinite x ⌝ }
-{
-    is_minus_infinity(x) || is_plus_infinity(x)
 }
 
 // The first greatest entry of xs, and its place.

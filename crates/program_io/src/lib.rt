@@ -1,3 +1,7 @@
-// What the programs share: 8-byte words from standard input, f64 by their bits, and lines on standard output.
+// What the programs share: words from standard input, lines on standard output, and the frozen list of rust/FROZEN.md: its cases, what
+// differs from them, and how many do.
+pub mod cases;
+pub mod compare;
 pub mod lines;
+pub mod tally;
 pub mod words;

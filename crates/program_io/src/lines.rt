@@ -1,7 +1,7 @@
 // Lines on standard output: text, counts, bits, answers.
 use answer::Answer;
 use answer::number;
-use order::is_number;
+use floats::is_number;
 
 // Bytes as they are.
 pub fn text(s: &[u8]) {

@@ -1,17 +1,21 @@
 // Words of 8 bytes, little-endian, from standard input, and the f64 that they are the bits of.
-use order::is_number;
+ghost use mathlib.Core.Path.{_≡_};
 ghost use Prim.Native.Nat.{_<_, _≤_};
+ghost use lib.Ieee.{ofBits, binary64};
 ghost use lib.ListN.{length};
+ghost use Rattle.program_io.specs.Words.{wordOf, wordAt};
 
 // A byte as a number.
 pub fn wide(x: u8) -> u64
-    ensures { λ r. ⌜ r < 256 ⌝ }
+    ensures { λ r. ⌜ (r ≡ x) × (r < 256) ⌝ }
 {
     x as u64
 }
 
 // The word of these bytes, from the lowest up.
-fn word(b: &[u8; 8]) -> u64 {
+fn word(b: &[u8; 8]) -> u64
+    ensures { λ r. ⌜ r ≡ wordOf (now (b .entry)) ⌝ }
+{
     let x = wide(b[7]) * 256 + wide(b[6]);
     let x = (x * 256 + wide(b[5])) * 256 + wide(b[4]);
     let x = (x * 256 + wide(b[3])) * 256 + wide(b[2]);
@@ -34,29 +38,22 @@ pub fn read_words(into: &mut [u64]) -> usize
     n
 }
 
-// The f64 of these bits, whose sign is clear.
-fn magnitude(bits: u64) -> f64 {
-    if bits >> 52 < 2047 {
-        return f64::from_bits(bits);
+// Word i of a list; 0 where there is none.
+pub fn word_at(list: &[u64], i: usize) -> u64
+    ensures { λ r. ⌜ r ≡ wordAt (now (list .entry)) i ⌝ }
+{
+    if i < list.len() {
+        return list[i];
     }
-    if bits == 0x7ff0_0000_0000_0000 {
-        return 1.0 / 0.0;
-    }
-    0.0 / 0.0
+    0
 }
 
 // The f64 of these bits; one NaN for all of theirs.
-pub fn number(bits: u64) -> f64 {
-    if bits < 0x8000_0000_0000_0000 {
-        return magnitude(bits);
+pub fn number(bits: u64) -> f64
+    ensures { λ r. ⌜ r ≡ ofBits binary64 bits ⌝ }
+{
+    if bits % 0x8000_0000_0000_0000 > 0x7ff0_0000_0000_0000 {
+        return 0.0 / 0.0;
     }
-    -magnitude(bits - 0x8000_0000_0000_0000)
-}
-
-// Whether x is NaN or has other bits than these.
-pub fn is_other(x: f64, bits: u64) -> bool {
-    if is_number(x) {
-        return f64::to_bits(x) != bits;
-    }
-    true
+    f64::from_bits(bits)
 }

@@ -1,4 +1,4 @@
--- Demand 3, of every way to decode that gives the best path and its value by their definitions. Assumes nothing.
+-- The best path (RULES 8.3), of every way to decode that gives the best path and its value by their definitions.
 use Prim.Native.Nat.{ℕ, suc, _-_, _<_}
 use mathlib.Core.Path.{_≡_, sym, ap, subst, _∙_}
 use mathlib.Core.List.{List, _++_}
@@ -7,15 +7,17 @@ use lib.Dec.{T}
 use lib.ListN.{length}
 use lib.Ieee.{Float, le}
 use Rattle.model.specs.Lent as Lent
-use Rattle.model.specs.Lent.{Lent}
+use Rattle.model.specs.Lent.{Lent, S}
 use Rattle.model.specs.Model.{modelOf}
-use Rattle.viterbi.specs.Walk.{bestPath, bestValue}
-use Rattle.viterbi.specs.Score.{stateAt}
-use Rattle.viterbi.proofs.Still.{Agree}
-use Rattle.viterbi.proofs.BestPath.{states, states-length, states-below, value-is-score, optimum, raising, lowering}
+use Rattle.model.proofs.Low.{Low, accepted-low}
+use Rattle.best_path.specs.Walk.{bestPath, bestValue}
+use Rattle.best_path.specs.Score.{stateAt}
+use Rattle.best_path.proofs.Below.{Below}
+use Rattle.best_path.proofs.Still.{Agree}
+use Rattle.best_path.proofs.BestPath.{states, states-length, states-below, value-is-score, optimum, raising, lowering}
 use Rattle.promises.specs.BestPath.{IsPath, scoreOf, usedTo, usedAtEnd, used, Raised, Decoder, GivesTheBest}
 use Rattle.promises.specs.Calls.{Defined}
-use Rattle.promises.proofs.Tables.{accepted-tame, raised-below}
+use Rattle.promises.proofs.Tables.{raised-below}
 use Rattle.promises.proofs.Used.{used-agree}
 
 -- what is given where the last sample is at time n
@@ -38,8 +40,11 @@ module _ (l : Lent) (value : Float) (path : List ℕ) (d : Defined l value path)
   long : Lent.T l ≡ suc n
   long = omega (arith, d .someSample)
 
-  few : n < Lent.T l
-  few = omega (arith, d .someSample)
+  some : 0 < S l
+  some = d .accepted .tables .someState
+
+  low : Low (modelOf l) (suc n)
+  low = rw long at (accepted-low l (d .accepted))
 
   value-is : value ≡ bestValue (modelOf l) (suc n)
   value-is = value-at n l value path d long
@@ -51,21 +56,22 @@ module _ (l : Lent) (value : Float) (path : List ℕ) (d : Defined l value path)
   is-path =
       record {
         long = ap length path-is ∙ states-length n (modelOf l) ∙ sym long;
-        states = λ (t : ℕ) i. rw path-is (states-below n (modelOf l) (d .accepted .someState) t (omega (arith, long)));
+        states = λ (t : ℕ) i. rw path-is (states-below n (modelOf l) some t (omega (arith, long)));
       }
 
   is-scored : value ≡ scoreOf l path
   is-scored = rw (value-is, path-is) (value-is-score n (modelOf l))
 
   is-highest : (other : List ℕ) → IsPath l other → T (le (scoreOf l other) value)
-  is-highest other p = rw value-is (optimum n (modelOf l) (accepted-tame l (d .accepted) n few) (stateAt other) (λ (t : ℕ) i. p .states t (omega (arith, long))))
+  is-highest other p = rw value-is (optimum n (modelOf l) some low (stateAt other) (λ (t : ℕ) i. p .states t (omega (arith, long))))
 
   module _ (l' : Lent) (value' : Float) (path' : List ℕ) (d' : Defined l' value' path') where
     is-raised : Raised l l' → T (le value value')
     is-raised r =
         let e : Lent.T l' ≡ suc n = sym (samples-long l l' r) ∙ long in
-        rw (value-is, value-at n l' value' path' d' e)
-        (raising n (modelOf l) (modelOf l') (raised-below l l' (d .accepted) n few r) (accepted-tame l' (d' .accepted) n (omega arith)))
+        let low' : Low (modelOf l') (suc n) = rw e at (accepted-low l' (d' .accepted)) in
+        let below : Below (suc n) (modelOf l) (modelOf l') = rw long at (raised-below l l' (d .accepted) r) in
+        rw (value-is, value-at n l' value' path' d' e) (raising n (modelOf l) (modelOf l') below (d' .accepted .tables .someState) low')
 
     is-lowered : Raised l' l → used l' path ≡ used l path → (path' ≡ path) × (value' ≡ value)
     is-lowered r u =
@@ -74,22 +80,27 @@ module _ (l : Lent) (value : Float) (path : List ℕ) (d : Defined l value path)
         let v : usedTo (modelOf l') (stateAt path) n ++ usedAtEnd (modelOf l') (stateAt path n) ≡ used l path
         = subst (λ (t : ℕ). usedTo (modelOf l') (stateAt path) t ++ usedAtEnd (modelOf l') (stateAt path t) ≡ used l path) z u in
         let a : Agree n (states n (modelOf l)) (modelOf l') (modelOf l)
-        = subst (λ (p : List ℕ). Agree n (stateAt p) (modelOf l') (modelOf l)) path-is (used-agree (modelOf l') (modelOf l) (stateAt path) n v) in
-        let w = lowering n (modelOf l') (modelOf l) (raised-below l' l (d' .accepted) n (omega arith) r) (accepted-tame l (d .accepted) n few) a in (
+        = subst (λ (p : List ℕ). Agree n (stateAt p) (modelOf l') (modelOf l)) path-is
+        (used-agree (modelOf l') (modelOf l) (stateAt path) n v) in
+        let below : Below (suc n) (modelOf l') (modelOf l) = rw e at (raised-below l' l (d' .accepted) r) in
+        let w = lowering n (modelOf l') (modelOf l) below some low a in (
           path-at n l' value' path' d' e ∙ w .0 ∙ sym path-is,
           value-at n l' value' path' d' e ∙ w .1 ∙ sym value-is,
         )
 
 -- where all that is given is so by the definitions, all that is given is the best
-pub gives-the-best : (gives : Decoder) → ((l : Lent) (value : Float) (path : List ℕ) → gives l value path → Defined l value path) → GivesTheBest gives
+pub gives-the-best : (gives : Decoder) → ((l : Lent) (value : Float) (path : List ℕ) → gives l value path → Defined l value path)
+    → GivesTheBest gives
 gives-the-best gives defined l value path g =
     let d = defined l value path g in
     record {
       isPath = is-path l value path d;
       scored = is-scored l value path d;
       highest = is-highest l value path d;
-      raising = λ (l' : Lent) (value' : Float) (path' : List ℕ) g' r. is-raised l value path d l' value' path' (defined l' value' path' g') r;
-      lowering = λ (l' : Lent) (value' : Float) (path' : List ℕ) g' r u. is-lowered l value path d l' value' path' (defined l' value' path' g') r u;
+      raising = λ (l' : Lent) (value' : Float) (path' : List ℕ) g' r.
+          is-raised l value path d l' value' path' (defined l' value' path' g') r;
+      lowering = λ (l' : Lent) (value' : Float) (path' : List ℕ) g' r u.
+          is-lowered l value path d l' value' path' (defined l' value' path' g') r u;
     }
 
 -- of accepted tables, by the definitions

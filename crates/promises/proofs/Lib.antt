@@ -1,10 +1,13 @@
 pub mod Used
 pub mod Tables
 pub mod BestPath
+pub mod Left
 pub mod Calls
-pub mod Room
+pub mod Bound
 pub mod Unique
-pub mod FirstFault
-pub mod Tells
 pub mod Always
 pub mod Likelihood
+pub mod Pass
+pub mod NoNan
+pub mod Leaves
+pub mod Kernels

@@ -1,34 +1,64 @@
--- Every promise leaves one result, since each is a list of equalities. Assumes nothing.
-use mathlib.Core.Path.{_≡_, sym, _∙_}
-use Rattle.viterbi.specs.Call.{outputs}
-use Rattle.training.specs.Call as Training
-use Rattle.promises.specs.Unique.{EqualityIsUnique, ViterbiIsUnique, WalksAreUnique, TrainingIsUnique, CumulativeSumsAreUnique}
+-- Every promise leaves one result, since each is an equality or a list of them.
+use Prim.Native.Nat.{ℕ}
+use mathlib.Core.Path.{_≡_, sym, ap, _∙_}
+use mathlib.Core.Bool.{Bool, true, false}
+use mathlib.Core.List.{List}
+use lib.Ieee.{Float}
+use Rattle.floats.specs.Float.{nought}
+use Rattle.answer.specs.declared.Answer.{Answer}
+use Rattle.probs.specs.Calls.{Cumulated}
+use Rattle.model.specs.Lent as Lent
+use Rattle.model.specs.Lent.{Lent, S}
+use Rattle.model.specs.Model.{modelOf}
+use Rattle.lists.specs.Lists.{table}
+use Rattle.best_path.specs.inner.Step.{Stored}
+use Rattle.viterbi.specs.Call as Viterbi
+use Rattle.viterbi.specs.Call.{Decoded}
+use Rattle.likelihood.specs.Walk.{alpha, forwardValue, beta, backwardValue}
+use Rattle.likelihood.specs.Call.{Forward, Backward, Walked}
+use Rattle.baum_welch.specs.Call as BaumWelch
+use Rattle.baum_welch.specs.Call.{Trained}
+use Rattle.wasnugram.specs.Face.{flattened, Answers}
+use Rattle.wasnugram.specs.declared.WasnugramAnswer.{WasnugramAnswer}
+use Rattle.wasnugram.proofs.Face.{face-is-unique}
+use Rattle.promises.specs.Unique.{Unique, EveryPromiseIsUnique, OfFloats, OfAnswer, OfKernels, OfProb, OfLogProb, OfPHREDProb, OfSums}
+use Rattle.promises.specs.Unique.{OfModel, OfChecks, OfEmission, OfBestPath, OfOccupancy, OfCalls, OfExportedCalls, OfFace}
 
-pub equality-is-unique : EqualityIsUnique
-equality-is-unique A v x y p q = p ∙ sym q
+-- ---- a promise that is one equality
+one : {A : Type 0} (v : A) → Unique (λ (r : A). r ≡ v)
+one v x y p q = p ∙ sym q
 
-pub viterbi-is-unique : ViterbiIsUnique
-viterbi-is-unique l o x y p q =
-    let answer : x .0 ≡ y .0 = p .answer ∙ sym (q .answer) in
-    let path : x .1 .path ≡ y .1 .path = p .path ∙ sym (q .path) in
-    let values : x .1 .values ≡ y .1 .values = p .values ∙ sym (q .values) in
-    let from : x .1 .from ≡ y .1 .from = p .from ∙ sym (q .from) in
-    λ i. (answer i, outputs (path i) (values i) (from i))
-
-pub walks-are-unique : WalksAreUnique
-walks-are-unique needsSample v rows l o x y p q =
-    let answer : x .0 ≡ y .0 = p .answer ∙ sym (q .answer) in
-    let values : x .1 ≡ y .1 = p .values ∙ sym (q .values) in
-    λ i. (answer i, values i)
-
-pub cumulative-sums-are-unique : CumulativeSumsAreUnique
-cumulative-sums-are-unique probs sums x y p q =
+-- ---- promises that are records of them
+cumulated : (probs sums : List Float) → Unique (λ (r : Answer × List Float). Cumulated probs sums (r .1) (r .0))
+cumulated probs sums x y p q =
     let answer : x .0 ≡ y .0 = p .answer ∙ sym (q .answer) in
     let output : x .1 ≡ y .1 = p .output ∙ sym (q .output) in
     λ i. (answer i, output i)
 
-pub training-is-unique : TrainingIsUnique
-training-is-unique l o x y p q =
+stored : (i : ℕ) (v : List Float) (f : List ℕ) (values : List Float) (from : List ℕ)
+    → Unique (λ (e : List Float × List ℕ). Stored i v f values (e .0) from (e .1))
+stored i v f values from x y p q =
+    let row : x .0 ≡ y .0 = p .valuesStored ∙ sym (q .valuesStored) in
+    let before : x .1 ≡ y .1 = p .fromStored ∙ sym (q .fromStored) in
+    λ k. (row k, before k)
+
+decoded : (l : Lent) (o : Viterbi.Outputs) → Unique (λ (r : Answer × Viterbi.Outputs). Decoded l o (r .0) (r .1))
+decoded l o x y p q =
+    let answer : x .0 ≡ y .0 = p .answer ∙ sym (q .answer) in
+    let path : x .1 .path ≡ y .1 .path = p .path ∙ sym (q .path) in
+    let values : x .1 .values ≡ y .1 .values = p .values ∙ sym (q .values) in
+    let from : x .1 .from ≡ y .1 .from = p .from ∙ sym (q .from) in
+    λ i. (answer i, Viterbi.outputs (path i) (values i) (from i))
+
+walked : (needsSample : Bool) (v : Float) (rows : List Float) (l : Lent) (o : List Float)
+    → Unique (λ (r : Answer × List Float). Walked needsSample v rows l o (r .0) (r .1))
+walked needsSample v rows l o x y p q =
+    let answer : x .0 ≡ y .0 = p .answer ∙ sym (q .answer) in
+    let values : x .1 ≡ y .1 = p .values ∙ sym (q .values) in
+    λ i. (answer i, values i)
+
+trained : (l : Lent) (o : BaumWelch.Outputs) → Unique (λ (r : Answer × BaumWelch.Outputs). Trained l o (r .0) (r .1))
+trained l o x y p q =
     let answer : x .0 ≡ y .0 = p .answer ∙ sym (q .answer) in
     let transition : x .1 .transition ≡ y .1 .transition = p .new .transition ∙ sym (q .new .transition) in
     let emission : x .1 .emission ≡ y .1 .emission = p .new .emission ∙ sym (q .new .emission) in
@@ -36,4 +66,168 @@ training-is-unique l o x y p q =
     let end : x .1 .end ≡ y .1 .end = p .new .end ∙ sym (q .new .end) in
     let alpha : x .1 .alpha ≡ y .1 .alpha = p .alpha ∙ sym (q .alpha) in
     let beta : x .1 .beta ≡ y .1 .beta = p .beta ∙ sym (q .beta) in
-    λ i. (answer i, Training.outputs (transition i) (emission i) (initial i) (end i) (alpha i) (beta i))
+    λ i. (answer i, BaumWelch.outputs (transition i) (emission i) (initial i) (end i) (alpha i) (beta i))
+
+forward-one : (l : Lent) (o : List Float) → Unique (λ (r : Answer × List Float). Forward l o (r .0) (r .1))
+forward-one l = walked true (forwardValue (modelOf l) (Lent.T l)) (table (Lent.T l) (S l) (alpha (modelOf l))) l
+
+backward-one : (l : Lent) (o : List Float) → Unique (λ (r : Answer × List Float). Backward l o (r .0) (r .1))
+backward-one l = walked false (backwardValue (modelOf l) (Lent.T l)) (table (Lent.T l) (S l) (beta (modelOf l) (Lent.T l))) l
+
+-- ---- an export that writes no memory
+flat : (v : Answer) → Unique (λ (r : WasnugramAnswer). Answers (λ (a : Answer). a ≡ v) r)
+flat v r s p q = p .flat ∙ ap flattened (p .promised ∙ sym (q .promised)) ∙ sym (q .flat)
+
+-- ---- crate by crate
+of-floats : OfFloats
+of-floats =
+    record {
+      «minus_infinity» = one _;
+      «is_number» = λ x. one _;
+      «is_minus_infinity» = λ x. one _;
+      «is_plus_infinity» = λ x. one _;
+      «is_infinite» = λ x. one _;
+      «is_plus_zero» = λ x. one _;
+      magnitude = λ x. one _;
+    }
+
+of-answer : OfAnswer
+of-answer =
+    record { number = λ refusal. one _; done = λ value. one _; refused = λ refusal table place. one _; «is_done» = λ answer. one _ }
+
+of-kernels : OfKernels
+of-kernels =
+    record {
+      «exp_of» = λ d. one _;
+      exp = λ d. one _;
+      «ln_of» = λ x. one _;
+      ln = λ x. one _;
+      «ln_1m_of» = λ p. one _;
+      «ln_1m_exp» = λ p. one _;
+    }
+
+of-prob : OfProb
+of-prob = record { checked = λ p. one _; «from_log_prob» = λ p. one _ }
+
+of-log-prob : OfLogProb
+of-log-prob =
+    record {
+      «is_valid» = λ self. one _;
+      «ln_zero» = λ x y p q.
+          let value : x .0 ≡ y .0 = p ∙ sym q in
+          λ i. record { 0 = value i };
+      «cap_numerical_overshoot» = λ self epsilon. one _;
+      «ln_one_minus_exp» = λ self. one _;
+      «ln_sum_exp» = λ probs. one _;
+      «ln_add_exp» = λ self other. one _;
+      «ln_sub_exp» = λ self other. one _;
+      «ln_cumsum_exp» = cumulated;
+      «from_prob» = λ p. one _;
+      «from_phred_prob» = λ p. one _;
+    }
+
+of-phred-prob : OfPHREDProb
+of-phred-prob = record { «from_log_prob» = λ p. one _ }
+
+of-sums : OfSums
+of-sums =
+    record {
+      «ln_add» = λ x y. one _;
+      «ln_sub» = λ p0 p1. one _;
+      «no_peak» = one _;
+      raise = λ peak x k. one _;
+      «plus_exp» = λ peak sum x k. one _;
+      close = λ peak sum. one _;
+      «open_sum» = λ xs. one _;
+      «close_sum» = λ whole. one _;
+      «ln_sum» = λ xs. one _;
+    }
+
+of-model : OfModel
+of-model = record { entry = λ table i. one _; «is_good» = λ x. one _; «is_good_end» = λ ends x. one _ }
+
+of-checks : OfChecks
+of-checks =
+    record {
+      «check_shape» = λ shape. one _;
+      «check_count» = λ needsSample samples. one _;
+      «check_rooms» = λ exact first needed lent. one _;
+      «first_bad_end» = λ ends table. one _;
+      «first_bad» = λ table. one _;
+      «check_entries» = λ m. one _;
+      «first_bad_sample» = λ symbols samples. one _;
+      «check_samples» = λ symbols samples. one _;
+      «check_sizes» = λ needsSample shape transition emission initial end samples. one _;
+      «check_rest» = λ l needed lent. one _;
+    }
+
+of-emission : OfEmission
+of-emission =
+    record { «lay_emissions» = λ emission states symbols samples t emissions. one _; «first_row» = λ initial emissions values. one _ }
+
+of-best-path : OfBestPath
+of-best-path =
+    record {
+      close = λ row k. one _;
+      «last_state» = λ row. one _;
+      trace = λ states from n last start path. one _;
+      «lay_sums» = λ states sums emissions target values. one _;
+      «lay_winners» = λ states winners target from. one _;
+      «next_row» = λ states transition emissions source target values from. stored target _ _ values from;
+      rows = λ states symbols transition emission initial samples values from x y p q.
+          stored 0 _ _ values from x y (p false (λ (j : ℕ). nought)) (q false (λ (j : ℕ). nought));
+    }
+
+of-occupancy : OfOccupancy
+of-occupancy =
+    record {
+      occupancy = λ pass alpha beta i t. one _;
+      gamma = λ pass alpha beta i. one _;
+      denominator = λ pass alpha beta i. one _;
+      «is_massless» = λ gamma denominator. one _;
+    }
+
+of-calls : OfCalls
+of-calls = record { viterbi = decoded; forward = forward-one; backward = backward-one; «baum_welch» = trained }
+
+of-exported-calls : (l : Lent) → OfExportedCalls l
+of-exported-calls l =
+    record {
+      «wasnugram_viterbi» = λ o. face-is-unique _ _ (decoded l o);
+      «wasnugram_forward» = λ o. face-is-unique _ _ (forward-one l o);
+      «wasnugram_backward» = λ o. face-is-unique _ _ (backward-one l o);
+      «wasnugram_baum_welch» = λ o. face-is-unique _ _ (trained l o);
+    }
+
+of-face : OfFace
+of-face =
+    record {
+      calls = λ shape transition emission initial end samples. of-exported-calls _;
+      «wasnugram_exp» = λ d. flat _;
+      «wasnugram_ln» = λ x. flat _;
+      «wasnugram_ln_one_minus_exp» = λ p. flat _;
+      «wasnugram_ln_sum_exp» = λ probs. flat _;
+      «wasnugram_ln_add_exp» = λ p0 p1. flat _;
+      «wasnugram_ln_sub_exp» = λ p0 p1. flat _;
+      «wasnugram_ln_cumsum_exp» = λ probs sums. face-is-unique _ _ (cumulated probs sums);
+      «wasnugram_cap_numerical_overshoot» = λ value epsilon. flat _;
+    }
+
+pub every-promise-is-unique : EveryPromiseIsUnique
+every-promise-is-unique =
+    record {
+      ofFloats = of-floats;
+      ofAnswer = of-answer;
+      ofKernels = of-kernels;
+      ofProb = of-prob;
+      ofLogProb = of-log-prob;
+      ofPHREDProb = of-phred-prob;
+      ofSums = of-sums;
+      ofModel = of-model;
+      ofChecks = of-checks;
+      ofEmission = of-emission;
+      ofBestPath = of-best-path;
+      ofOccupancy = of-occupancy;
+      ofCalls = of-calls;
+      ofFace = of-face;
+    }

@@ -1,4 +1,4 @@
--- What a path uses: the score adds it, and two models in which it is the same agree along the path. Assumes nothing.
+-- What a path uses: the score adds it, and two models in which it is the same agree along the path.
 use Prim.Native.Nat.{ℕ, zero, suc, _-_, _≤_, _<_}
 use mathlib.Core.Path.{_≡_, refl, sym, ap, _∙_}
 use mathlib.Core.Logic.{⊎-elim}
@@ -8,13 +8,13 @@ use native.Mathlib.Omega.{arith}
 use lib.ListN.{length, take, drop, length-append}
 use lib.Seq.{take-at, drop-at}
 use lib.Ieee.{Float}
-use Rattle.order.specs.Float.{_⊕_}
+use Rattle.floats.specs.Float.{_⊕_}
 use Rattle.model.specs.Lent as Lent
 use Rattle.model.specs.Lent.{Lent}
 use Rattle.model.specs.Model.{Model, modelOf}
-use Rattle.viterbi.specs.Walk.{closed}
-use Rattle.viterbi.specs.Score.{stateAt, sumTo, score}
-use Rattle.viterbi.proofs.Still.{Agree}
+use Rattle.best_path.specs.Walk.{closed}
+use Rattle.best_path.specs.Score.{stateAt, sumTo, score}
+use Rattle.best_path.proofs.Still.{Agree}
 use Rattle.promises.specs.BestPath.{usedTo, usedAtEnd, added, ScoreAddsWhatIsUsed}
 
 -- ---- the end of a path: the score ends with what the last state uses there, and in the same way where that is the same
@@ -77,7 +77,11 @@ module _ (m h : Model) (p : ℕ → ℕ) where
   unfolding usedTo
   agree-to zero e =
       let f : m .emission 0 (p 0) ≡ h .emission 0 (p 0) = cc in
-      record { initial = cc; transition = λ (u : ℕ) l. absurd (not-suc-le-zero l); emission = λ (u : ℕ) l. let z : u ≡ 0 = omega arith in rw z f }
+      record {
+        initial = cc;
+        transition = λ (u : ℕ) l. absurd (not-suc-le-zero l);
+        emission = λ (u : ℕ) l. let z : u ≡ 0 = omega arith in rw z f;
+      }
   agree-to (suc t) e =
       let k = halves (usedTo m p t) _ (usedTo h p t) _ (used-long t) e in
       let a = agree-to t (k .0) in
@@ -87,7 +91,8 @@ module _ (m h : Model) (p : ℕ → ℕ) where
       record {
         initial = a .initial;
         transition = λ (u : ℕ) l. ⊎-elim (λ (z : u ≡ t). rw z f) (λ (i : u < t). a .transition u i) (eq-or-lt-of-le (le-of-suc-le-suc l));
-        emission = λ (u : ℕ) l. ⊎-elim (λ (z : u ≡ suc t). rw z g) (λ (i : u < suc t). a .emission u (le-of-suc-le-suc i)) (eq-or-lt-of-le l);
+        emission = λ (u : ℕ) l.
+            ⊎-elim (λ (z : u ≡ suc t). rw z g) (λ (i : u < suc t). a .emission u (le-of-suc-le-suc i)) (eq-or-lt-of-le l);
       }
 
   pub used-agree : (n : ℕ) → usedTo m p n ++ usedAtEnd m (p n) ≡ usedTo h p n ++ usedAtEnd h (p n) → Agree n p m h

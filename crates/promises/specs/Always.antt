@@ -1,74 +1,67 @@
--- Demand 1, always an answer, asked of any call on a model: `Always`, at the end, has its parts.
-use Prim.Native.Nat.{ℕ, _*_}
+-- Demand 1, always an answer (RULES 8.1), asked of any call: `Always` has its parts, and `AllCallsAnswer` the calls that it is proved of.
+use Prim.Native.Nat.{ℕ, _*_, _<_}
 use mathlib.Core.Path.{_≡_}
 use mathlib.Core.Bool.{Bool, true, false}
 use mathlib.Core.List.{List, [], _∷_, _++_}
+use lib.Dec as Dec
 use lib.ListN.{length}
 use lib.Ieee.{Float}
-use Rattle.order.specs.Float.{nought, minusInfinity}
-use Rattle.rows.specs.Lists.{tab, over}
-use Rattle.answer.specs.Answer.{numberOf, isDone}
+use Rattle.floats.specs.Float.{nought, isMinusInfinity}
+use Rattle.lists.specs.Lists.{tab, over}
+use Rattle.answer.specs.Answer.{isDone}
 use Rattle.answer.specs.declared.Answer.{Answer}
 use Rattle.model.specs.Lent.{Lent, S, T}
-use Rattle.model.specs.Checks.{Room, room}
-use Rattle.model.specs.Model.{modelOf}
+use Rattle.model.specs.Model.{Model, modelOf}
+use Rattle.checks.specs.Rooms.{Room, room}
+use Rattle.checks.specs.Faults.{Fault, fault, checkFaults, badEntries, Some, Faultless}
+use Rattle.checks.specs.Exactly.{Exactly}
 use Rattle.viterbi.specs.Call as Viterbi
 use Rattle.viterbi.specs.Call.{Decoded}
 use Rattle.likelihood.specs.Call.{Forward, Backward}
-use Rattle.training.specs.Call as Training
-use Rattle.training.specs.Call.{Trained, walked}
-use Rattle.promises.specs.Faults.{Fault, checkFaults, massFaults, badEntries, First, Some, Faultless}
+use Rattle.occupancy.specs.Occupancy.{Walks, massless}
+use Rattle.baum_welch.specs.Call as BaumWelch
+use Rattle.baum_welch.specs.Call.{Trained, walksOf}
 
--- the answer is this refusal: "The value on refusal is minus infinity."
-pub record Refused (r : Answer) (number table place : ℕ) : Type 0 where
-  pub numberIs : numberOf (r .refusal) ≡ number
-  pub tableIs : r .table ≡ table
-  pub placeIs : r .place ≡ place
-  pub valueIs : r .value ≡ minusInfinity
-
--- "Given exactly when": the first fault is the refusal that is given, and none is given without a fault
-pub record Exactly (faults : List Fault) (r : Answer) : Type 0 where
-  pub given : (number table place : ℕ) → First faults number table place → Refused r number table place
-  pub onlyThen : isDone r ≡ false → First faults (numberOf (r .refusal)) (r .table) (r .place)
-  pub done : Faultless faults → isDone r ≡ true
-  pub doneOnlyThen : isDone r ≡ true → Faultless faults
-
--- a call on a model: what it is lent besides the model, what it promises, the faults that it looks for before it starts, and those it may
--- meet on the way
+-- a call: what it is lent to read and to write, what it promises, the faults that it looks for before it starts, the bad entries among
+-- them, and the faults that it may meet on the way
 pub record Call : Type 1 where
+  pub Input : Type 0
   pub Outputs : Type 0
-  pub Promise : Lent → Outputs → Answer → Outputs → Type 0
-  pub checked : Lent → Outputs → List Fault
-  pub met : Lent → Outputs → List Fault
+  pub Promise : Input → Outputs → Answer → Outputs → Type 0
+  pub checked : Input → Outputs → List Fault
+  pub entries : Input → List Fault
+  pub met : Input → Outputs → List Fault
 
 pub record Always (c : Call) : Type 1 where
   -- whatever is lent, some answer and final outputs meet the promise
-  pub answers : (l : Lent) (o : c .Outputs) → (r : Answer) × (e : c .Outputs) × c .Promise l o r e
-  -- every refusal is given exactly when document 01 says
-  pub exactly : (l : Lent) (o e : c .Outputs) (r : Answer) → c .Promise l o r e → Exactly (c .checked l o ++ c .met l o) r
-  -- "Numbers 1 to 8 leave all memory alone."
-  pub untouched : (l : Lent) (o e : c .Outputs) (r : Answer) → c .Promise l o r e → Some (c .checked l o) → (isDone r ≡ false) × (e ≡ o)
+  pub answers : (l : c .Input) (o : c .Outputs) → (r : Answer) × (e : c .Outputs) × c .Promise l o r e
+  -- every refusal is given exactly when RULES 3.2 says
+  pub exactly : (l : c .Input) (o e : c .Outputs) (r : Answer) → c .Promise l o r e → Exactly (c .checked l o ++ c .met l o) r
+  -- what is refused before the call starts leaves all memory alone (RULES 3.4)
+  pub untouched : (l : c .Input) (o e : c .Outputs) (r : Answer) → c .Promise l o r e → Some (c .checked l o) → (isDone r ≡ false) × (e ≡ o)
   -- an entry that is NaN or above zero is refused, in every table, and every output is then what it was
-  pub entries : (l : Lent) (o e : c .Outputs) (r : Answer) → c .Promise l o r e → Some (badEntries l) → (isDone r ≡ false) × (e ≡ o)
+  pub badEntry : (l : c .Input) (o e : c .Outputs) (r : Answer) → c .Promise l o r e → Some (c .entries l) → (isDone r ≡ false) × (e ≡ o)
+
+-- a call on a model and one passage, which needs a sample or not, by its promise, the room of its outputs and what it may meet
+module _ (Outputs : Type 0) (needsSample : Bool) (Promise : Lent → Outputs → Answer → Outputs → Type 0) where
+  abbrev pub onPassage : (Lent → Outputs → List Room) → (Lent → Outputs → List Fault) → Call
+  onPassage rooms met =
+      record {
+        Input = Lent;
+        Outputs = Outputs;
+        Promise = Promise;
+        checked = λ (l : Lent) (o : Outputs). checkFaults needsSample (rooms l o) l;
+        entries = λ (l : Lent). badEntries (l .tables);
+        met = met;
+      }
 
 abbrev pub viterbi : Call
-viterbi =
-    record {
-      Outputs = Viterbi.Outputs;
-      Promise = Decoded;
-      checked = λ (l : Lent) (o : Viterbi.Outputs). checkFaults false (Viterbi.rooms l o) l;
-      met = λ (l : Lent) (o : Viterbi.Outputs). [];
-    }
+viterbi = onPassage Viterbi.Outputs false Decoded Viterbi.rooms (λ (l : Lent) (o : Viterbi.Outputs). [])
 
 -- a walk is lent one output, of T·S
 abbrev pub walk : Bool → (Lent → List Float → Answer → List Float → Type 0) → Call
 walk needsSample Promise =
-    record {
-      Outputs = List Float;
-      Promise = Promise;
-      checked = λ (l : Lent) (o : List Float). checkFaults needsSample (room (T l * S l) (length o) ∷ []) l;
-      met = λ (l : Lent) (o : List Float). [];
-    }
+    onPassage (List Float) needsSample Promise (λ (l : Lent) (o : List Float). room (T l * S l) (length o) ∷ []) (λ (l : Lent) (o : List Float). [])
 
 abbrev pub forward : Call
 forward = walk true Forward
@@ -76,19 +69,17 @@ forward = walk true Forward
 abbrev pub backward : Call
 backward = walk false Backward
 
--- the room of a pass's outputs and scratch
-abbrev pub roomsOf : Lent → Training.Outputs → List Room
-roomsOf l o =
-    Training.rooms (l .shape) (T l) (length (o .transition)) (length (o .emission)) (length (o .initial)) (length (o .end)) (length (o .alpha)) (length (o .beta))
+-- 9, which a training pass may meet on the way: the whole has no mass, or else a state has none
+abbrev pub massFaults : Model → Walks → List Fault
+massFaults m w =
+    fault 9 0 (λ (p : ℕ). (p ≡ m .states) × Dec.T (isMinusInfinity (w .probx)))
+    ∷ fault 9 0 (λ (p : ℕ). (p < m .states) × Dec.T (massless (m .ends) w p))
+    ∷ []
 
 abbrev pub baumWelch : Call
 baumWelch =
-    record {
-      Outputs = Training.Outputs;
-      Promise = Trained;
-      checked = λ (l : Lent) (o : Training.Outputs). checkFaults true (roomsOf l o) l;
-      met = λ (l : Lent) (o : Training.Outputs). massFaults (modelOf l) (walked l o);
-    }
+    onPassage BaumWelch.Outputs true Trained BaumWelch.rooms
+    (λ (l : Lent) (o : BaumWelch.Outputs). massFaults (modelOf l) (walksOf l))
 
 -- of the four calls on a model
 pub record AllCallsAnswer : Type 1 where
@@ -97,8 +88,8 @@ pub record AllCallsAnswer : Type 1 where
   pub ofBackward : Always backward
   pub ofBaumWelch : Always baumWelch
 
--- "After 9 in a training pass the outputs are untouched and the needed scratch is all +0.0"
-pub record Cleared (l : Lent) (o e : Training.Outputs) : Type 0 where
+-- after 9 a training pass has left the new tables alone and cleared the scratch that it needed (RULES 3.4)
+pub record Cleared (l : Lent) (o e : BaumWelch.Outputs) : Type 0 where
   pub transitionStays : e .transition ≡ o .transition
   pub emissionStays : e .emission ≡ o .emission
   pub initialStays : e .initial ≡ o .initial
@@ -109,4 +100,5 @@ pub record Cleared (l : Lent) (o e : Training.Outputs) : Type 0 where
 -- a pass that the checks let through and that is refused
 abbrev pub ZeroMassClears : Type 0
 ZeroMassClears =
-    (l : Lent) (o e : Training.Outputs) (r : Answer) → Trained l o r e → Faultless (checkFaults true (roomsOf l o) l) → isDone r ≡ false → Cleared l o e
+    (l : Lent) (o e : BaumWelch.Outputs) (r : Answer)
+    → Trained l o r e → Faultless (checkFaults true (BaumWelch.rooms l o) l) → isDone r ≡ false → Cleared l o e

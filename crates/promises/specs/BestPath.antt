@@ -1,4 +1,4 @@
--- Demand 3, the best path, asked of any way to decode: `Best`, at the end, has its parts. Calls.antt says which ways there are, and
+-- The best path (RULES 8.3), asked of any way to decode: `Best`, at the end, has its parts. Calls.antt says which ways there are, and
 -- proofs/ has that each meets it.
 use Prim.Native.Nat.{ℕ, zero, suc, _-_, _<_}
 use mathlib.Core.Path.{_≡_}
@@ -6,11 +6,11 @@ use mathlib.Core.List.{List, [], _∷_, _++_, foldl}
 use lib.Dec.{T}
 use lib.ListN.{length}
 use lib.Ieee.{Float, le}
-use Rattle.order.specs.Float.{_⊕_, nought, at}
+use Rattle.floats.specs.Float.{_⊕_, nought, at}
 use Rattle.model.specs.Lent as Lent
 use Rattle.model.specs.Lent.{Lent, S}
 use Rattle.model.specs.Model.{Model, modelOf}
-use Rattle.viterbi.specs.Score.{stateAt, score}
+use Rattle.best_path.specs.Score.{stateAt, score}
 
 -- a path through the samples: T states, each below S
 pub record IsPath (l : Lent) (path : List ℕ) : Type 0 where
@@ -26,7 +26,7 @@ unfoldable pub usedTo : Model → (ℕ → ℕ) → ℕ → List Float
 usedTo m p zero = m .initial (p 0) ∷ m .emission 0 (p 0) ∷ []
 usedTo m p (suc t) = usedTo m p t ++ (m .transition (p t) (p (suc t)) ∷ m .emission (suc t) (p (suc t)) ∷ [])
 
--- and what the last state j uses besides: "The end table is not used."
+-- and what the last state j uses besides: the end table is not used (RULES 6.1)
 unfoldable pub usedAtEnd : Model → ℕ → List Float
 usedAtEnd m j = []
 
@@ -49,12 +49,12 @@ AtMost low high = (i : ℕ) → i < length low → T (le (at low i) (at high i))
 
 -- high is low with any entries of the four tables raised, and low is high with any entries lowered
 pub record Raised (low high : Lent) : Type 0 where
-  pub shape : low .shape ≡ high .shape
+  pub shape : low .tables .shape ≡ high .tables .shape
   pub samples : low .samples ≡ high .samples
-  pub transition : AtMost (low .transition) (high .transition)
-  pub emission : AtMost (low .emission) (high .emission)
-  pub initial : AtMost (low .initial) (high .initial)
-  pub end : AtMost (low .end) (high .end)
+  pub transition : AtMost (low .tables .transition) (high .tables .transition)
+  pub emission : AtMost (low .tables .emission) (high .tables .emission)
+  pub initial : AtMost (low .tables .initial) (high .tables .initial)
+  pub end : AtMost (low .tables .end) (high .tables .end)
 
 -- a way to decode: which value and path it gives for what it is lent
 abbrev pub Decoder : Type 1
@@ -70,7 +70,8 @@ pub record Best (gives : Decoder) (l : Lent) (value : Float) (path : List ℕ) :
   -- raise any entries, none above zero or nothing is given, and decode again: the value never falls
   pub raising : (high : Lent) (value' : Float) (path' : List ℕ) → gives high value' path' → Raised l high → T (le value value')
   -- lower any entries that the path does not use, and decode again: path and value stay, to the bit
-  pub lowering : (low : Lent) (value' : Float) (path' : List ℕ) → gives low value' path' → Raised low l → used low path ≡ used l path → (path' ≡ path) × (value' ≡ value)
+  pub lowering : (low : Lent) (value' : Float) (path' : List ℕ) → gives low value' path' → Raised low l → used low path ≡ used l path
+      → (path' ≡ path) × (value' ≡ value)
 
 -- whatever is given is the best
 abbrev pub GivesTheBest : Decoder → Type 0

@@ -8,9 +8,10 @@ use lib.Ieee.{Float}
 use Rattle.answer.specs.Answer.{isDone}
 use Rattle.answer.specs.declared.Answer.{Answer}
 use Rattle.model.specs.Lent.{Lent, T}
-use Rattle.model.specs.Accepted.{Accepted, Roomy}
+use Rattle.model.specs.Accepted.{Accepted}
 use Rattle.model.specs.Model.{modelOf}
-use Rattle.viterbi.specs.Walk.{bestPath, bestValue}
+use Rattle.checks.specs.Rooms.{Roomy}
+use Rattle.best_path.specs.Walk.{bestPath, bestValue}
 use Rattle.viterbi.specs.Call.{Outputs, rooms, Decoded}
 
 -- a call of `viterbi` that is done, on at least one sample: by its promise `Decoded`, it answers the value and leaves the path
@@ -27,7 +28,9 @@ pub record Viterbi (l : Lent) (value : Float) (path : List ℕ) : Type 0 where
 
 -- it is done for all that is accepted, where its outputs have room
 abbrev pub ViterbiIsDone : Type 0
-ViterbiIsDone = (l : Lent) (lent left : Outputs) (answer : Answer) → Accepted l → Roomy (rooms l lent) → Decoded l lent answer left → isDone answer ≡ true
+ViterbiIsDone =
+    (l : Lent) (lent left : Outputs) (answer : Answer) → Accepted l → Roomy (rooms l lent)
+    → Decoded l lent answer left → isDone answer ≡ true
 
 -- the best path and its value by their definitions, for what the checks let through
 pub record Defined (l : Lent) (value : Float) (path : List ℕ) : Type 0 where

@@ -8,7 +8,7 @@ use Rattle.model.specs.Lent as Lent
 use Rattle.model.specs.Lent.{Lent, S}
 use Rattle.model.specs.Accepted.{Accepted}
 use Rattle.model.specs.Model.{modelOf}
-use Rattle.viterbi.specs.Walk.{value, bestValue}
+use Rattle.best_path.specs.Walk.{value, bestValue}
 use Rattle.likelihood.specs.Walk.{alpha, forwardValue}
 
 -- each forward cell is at least the Viterbi cell of the same sample and state
@@ -18,4 +18,5 @@ ForwardIsAbove = (l : Lent) → Accepted l → (t j : ℕ) → t < Lent.T l → 
 -- and without an end state so is the answer. With one, forward adds the end table and Viterbi does not, so that forward's may be below.
 abbrev pub LikelihoodIsAbove : Type 0
 LikelihoodIsAbove =
-    (l : Lent) → Accepted l → 0 < Lent.T l → l .shape .ends ≡ false → T (le (bestValue (modelOf l) (Lent.T l)) (forwardValue (modelOf l) (Lent.T l)))
+    (l : Lent) → Accepted l → 0 < Lent.T l → l .tables .shape .ends ≡ false
+    → T (le (bestValue (modelOf l) (Lent.T l)) (forwardValue (modelOf l) (Lent.T l)))

@@ -1,19 +1,17 @@
--- The three ways in which a call ends, and that each is what it promises: refused, without a sample, and walked. Assumes nothing.
-use Prim.Native.Nat.{ℕ}
+-- The three ways in which a call ends, and that each is what it promises: refused, without a sample, and walked.
 use mathlib.Core.Path.{_≡_, sym, ap, _∙_}
 use mathlib.Core.Bool.{true, false}
-use mathlib.Core.List.{List}
 use lib.Ieee.{Float}
-use Rattle.order.specs.Float.{minusInfinity}
-use Rattle.rows.specs.Lists.{flat, over}
-use Rattle.rows.proofs.Over.{over-none}
+use Rattle.floats.specs.Float.{minusInfinity}
+use Rattle.lists.specs.Lists.{flat}
+use Rattle.lists.proofs.Over.{over-none}
 use Rattle.answer.specs.Answer.{done, isDone}
 use Rattle.answer.specs.declared.Answer.{Answer}
-use Rattle.model.specs.Lent.{Lent, S, M, T}
-use Rattle.viterbi.specs.Walk.{bestPath, bestValue}
+use Rattle.model.specs.Lent.{Lent, T}
+use Rattle.model.specs.Model.{modelOf}
+use Rattle.best_path.specs.Walk.{bestPath, bestValue}
 use Rattle.viterbi.specs.Call.{Outputs, checked, Decoded}
-use Rattle.viterbi.specs.Inner.{walked, Walked}
-use Rattle.viterbi.proofs.Unread.{same-values, same-from, same-path, same-value}
+use Rattle.viterbi.specs.inner.Parts.{Found}
 
 module _ (l : Lent) (o : Outputs) (r : Answer) where
   pub is-refused : isDone (checked l o) ≡ false → r ≡ checked l o → Decoded l o r o
@@ -29,11 +27,11 @@ module _ (l : Lent) (o : Outputs) (r : Answer) where
         from = rw (ok, none) (sym (over-none 0 _));
       }
 
-  pub is-walked : isDone (checked l o) ≡ true → (v : Float) (e : Outputs) → Walked (walked (S l) (M l) (l .transition) (l .emission) (l .initial) (l .samples)) o v e → r ≡ done v → Decoded l o r e
+  pub is-walked : isDone (checked l o) ≡ true → (v : Float) (e : Outputs) → Found (modelOf l) (T l) o v e → r ≡ done v → Decoded l o r e
   is-walked ok v e w d =
       record {
-        answer = rw ok (d ∙ ap done (w .valueFound ∙ same-value l (T l)));
-        path = rw ok (w .pathLaid ∙ ap (λ (p : List ℕ). over 0 p (o .path)) (same-path l (T l)));
-        values = rw (ok, ← same-values l) (w .rowsFilled .valuesLaid);
-        from = rw (ok, ← same-from l) (w .rowsFilled .fromLaid);
+        answer = rw ok (d ∙ ap done (w .valueFound));
+        path = rw ok (w .pathStored);
+        values = rw ok (w .rowsFilled .valuesStored);
+        from = rw ok (w .rowsFilled .fromStored);
       }

@@ -1,5 +1,2 @@
-pub mod Best
-pub mod Walk
-pub mod Score
 pub mod Call
-pub mod Inner
+pub mod inner

@@ -1,8 +1,10 @@
--- An export's promise leaves one result, since its call's does. Assumes nothing.
-use mathlib.Core.Path.{sym, ap, _∙_}
+-- An export's promise leaves one result, since its call's does.
+use mathlib.Core.Path.{_≡_, sym, ap, _∙_}
+use Rattle.answer.specs.declared.Answer.{Answer}
 use Rattle.wasnugram.specs.Face.{flattened, FaceIsUnique}
 
 pub face-is-unique : FaceIsUnique
-face-is-unique Memory promise one r s e f p q =
-    let same = one (p .answer) (q .answer) e f (p .promised) (q .promised) in
-    (p .flat ∙ (ap flattened (same .0) ∙ sym (q .flat)), same .1)
+face-is-unique Memory promise one r s p q =
+    let same = one (p .answer, r .1) (q .answer, s .1) (p .promised) (q .promised) in
+    let answer : r .0 ≡ s .0 = p .flat ∙ (ap (λ (x : Answer × Memory). flattened (x .0)) same ∙ sym (q .flat)) in
+    λ i. (answer i, same i .1)

@@ -12,7 +12,7 @@ use Rattle.wasnugram.specs.declared.WasnugramShape.{WasnugramShape}
 abbrev pub shapeOf : WasnugramShape → Shape
 shapeOf s = record { states = s .states; symbols = s .symbols; ends = not (eqb (s .ends) 0) }
 
--- the refusal by document 01's number
+-- the refusal by its number (RULES 3.2)
 abbrev pub flattened : Answer → WasnugramAnswer
 flattened a = record { refusal = numberOf (a .refusal); table = a .table; place = a .place; value = a .value }
 
@@ -22,9 +22,9 @@ pub record Answers (promise : Answer → Type 0) (r : WasnugramAnswer) : Type 0 
   pub promised : promise answer
   pub flat : r ≡ flattened answer
 
--- where one result meets the promise of a call, memory and all, one result meets that of its export
+-- where one result meets the promise of a call, answer and memory, one result meets that of its export
 abbrev pub FaceIsUnique : Type 1
 FaceIsUnique =
     (Memory : Type 0) (promise : Memory → Answer → Type 0)
-    → ((a b : Answer) (e f : Memory) → promise e a → promise f b → (a ≡ b) × (e ≡ f))
-    → (r s : WasnugramAnswer) (e f : Memory) → Answers (promise e) r → Answers (promise f) s → (r ≡ s) × (e ≡ f)
+    → ((x y : Answer × Memory) → promise (x .1) (x .0) → promise (y .1) (y .0) → x ≡ y)
+    → (r s : WasnugramAnswer × Memory) → Answers (promise (r .1)) (r .0) → Answers (promise (s .1)) (s .0) → r ≡ s

@@ -10,7 +10,7 @@ ghost use Rattle.probs.specs.Calls.{lnSumExpAnswer, lnAddExpAnswer, lnSubExpAns
 ghost use Rattle.model.specs.Lent.{lent};
 ghost use Rattle.viterbi.specs.Call.{Decoded, outputs};
 ghost use Rattle.likelihood.specs.Call.{Forward, Backward};
-ghost use Rattle.training.specs.Call.{Trained, outputs as trained};
+ghost use Rattle.baum_welch.specs.Call.{Trained, outputs as trained};
 ghost use Rattle.wasnugram.specs.Face.{shapeOf, flattened, Answers};
 
 // S states, M symbols, and whether the model has an end state: 0 for no, anything else for yes.
@@ -159,7 +159,7 @@ pub extern "C" fn wasnugram_baum_welch(
         symbols: shape.symbols,
         ends: shape.ends != 0,
     };
-    flat(training::baum_welch(
+    flat(baum_welch::baum_welch(
         shape,
         transition,
         emission,

@@ -1,4 +1,4 @@
--- `answer::is_done` meets its contract: the number that is tested is the refusal's. Assumes nothing.
+-- `answer::is_done` meets its contract: the number that is tested is the refusal's.
 use mathlib.Core.Path.{ap}
 use Prim.Native.Nat.{ℕ}
 use lib.Dec.{eqb}

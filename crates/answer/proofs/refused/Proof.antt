@@ -1,4 +1,4 @@
--- `answer::refused` meets its contract: the value is what `minus_infinity` gives. Assumes nothing.
+-- `answer::refused` meets its contract: the value is what `minus_infinity` gives.
 use mathlib.Core.Path.{ap}
 use lib.Ieee.{Float}
 use borrow.Author.Needs.{needs}

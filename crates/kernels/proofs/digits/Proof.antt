@@ -1,4 +1,4 @@
--- `kernels::digits` meets its contract: the mask is a remainder, and the leading one is added above it. Assumes nothing.
+-- `kernels::digits` meets its contract: the mask is a remainder, and the leading one is added above it.
 use mathlib.Core.Path.{sym, ap, _∙_}
 use mathlib.Core.Bool.{Bool, cond}
 use Prim.Native.Nat.{ℕ, _+_, _/_, _%_, _^_}

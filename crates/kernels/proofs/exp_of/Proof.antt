@@ -1,4 +1,4 @@
--- `kernels::exp_of` meets its contract: y, Y, I, G and A are what the definition says, step by step. Assumes nothing.
+-- `kernels::exp_of` meets its contract: y, Y, I, G and A are what the definition says, step by step.
 use borrow.Author.Needs.{needs}
 use mathlib.Core.Path.{_≡_, sym, ap, _∙_, subst}
 use mathlib.Core.Bool.{Bool, true, false, cond}
@@ -9,29 +9,31 @@ use lib.Bits.{and-mask}
 use lib.Ieee.{Float, binary64, ofBits, le, mul}
 use lib.Ieee.Fits.{mul-fits}
 use lib.Ieee.Bits.{ofBits-toBits}
-use Rattle.order.specs.Float.{nought, nonneg}
-use Rattle.order.proofs.Sign.{sign-num}
+use Rattle.floats.specs.Float.{nought}
+use Rattle.floats.specs.inner.Sign.{nonneg}
+use Rattle.floats.proofs.Sign.{sign-num}
 use Rattle.kernels.specs.Binary.{dyadic}
 use Rattle.kernels.specs.Exp.{power, log2e, expArg, floor30, expFrom, expEnd, expOf}
 use Rattle.kernels.proofs.ExpParts.{log2e-bits, arg-nonneg, small-pattern}
 use Rattle.kernels.proofs.exp_of.Statement.{statement}
 use Rattle.kernels.proofs.exp_of.Tie as tie
 
-magnitude-requires : tie.Need-magnitude-requires
-magnitude-requires c κs = search needs
+depth-requires : tie.Need-depth-requires
+depth-requires c κs = search needs
 
 -- y as the code has it
-abbrev y-of : tie.After-magnitude → Float
-y-of c = mul binary64 (c .magnitude .result) (ofBits binary64 0x3ff7_1547_652b_82fe)
+abbrev y-of : tie.After-depth → Float
+y-of c = mul binary64 (c .depth .result) (ofBits binary64 0x3ff7_1547_652b_82fe)
 
-y-is : (c : tie.After-magnitude) → y-of c ≡ expArg (c .before .args .d)
-y-is c = ap (mul binary64 (c .magnitude .result)) log2e-bits ∙ ap (λ (a : Float). mul binary64 a log2e) (c .magnitude .ensures)
+y-is : (c : tie.After-depth) → y-of c ≡ expArg (c .before .args .d)
+y-is c = ap (mul binary64 (c .depth .result)) log2e-bits ∙ ap (λ (a : Float). mul binary64 a log2e) (c .depth .ensures)
 
-y-nonneg : (c : tie.After-magnitude) → T (nonneg (y-of c))
+y-nonneg : (c : tie.After-depth) → T (nonneg (y-of c))
 y-nonneg c = subst (λ (y : Float). T (nonneg y)) (sym (y-is c)) (arg-nonneg (c .before .args .d))
 
 -- the definition, by its test
-by-test : (c : tie.After-magnitude) (t : Bool) → le expEnd (y-of c) ≡ t → expOf (c .before .args .d) ≡ cond t nought (expFrom (floor30 (expArg (c .before .args .d))))
+by-test : (c : tie.After-depth) (t : Bool) → le expEnd (y-of c) ≡ t
+    → expOf (c .before .args .d) ≡ cond t nought (expFrom (floor30 (expArg (c .before .args .d))))
 unfolding expOf
 by-test c t h = let y = expArg (c .before .args .d) in ap (λ (b : Bool). cond b nought (expFrom (floor30 y))) (sym (ap (le expEnd) (y-is c)) ∙ h)
 
@@ -63,7 +65,8 @@ returns-2 c =
     let e = f .before in
     let m = e .before in
     let Y = f .floor30 .result in
-    let same : Y ≡ floor30 (expArg (m .before .args .d)) = f .floor30 .ensures .0 ∙ ap floor30 (ofBits-toBits binary64 (y-of m) (mul-fits binary64 (m .magnitude .result) (ofBits binary64 0x3ff7_1547_652b_82fe)) ∙ y-is m) in
+    let same : Y ≡ floor30 (expArg (m .before .args .d)) = f .floor30 .ensures .0 ∙ ap floor30 (ofBits-toBits binary64 (y-of m)
+    (mul-fits binary64 (m .depth .result) (ofBits binary64 0x3ff7_1547_652b_82fe)) ∙ y-is m) in
     c .scaled .ensures
     ∙ ap (λ (a : ℕ). dyadic (pos a) (31 + Y / 2 ^ 30)) (p .power .ensures .0 ∙ ap power (and-mask Y 30))
     ∙ ap expFrom same
@@ -73,7 +76,7 @@ pub exp-of-spec : {M : Type 1} → statement M
 exp-of-spec =
     tie.close
     (tie.spec
-    magnitude-requires
+    depth-requires
     returns
     float-to-bits-floor30
     floor30-requires

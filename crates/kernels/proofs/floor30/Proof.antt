@@ -1,9 +1,9 @@
--- `kernels::floor30` meets its contract: the digits shifted down, 0 where none is left. Assumes nothing.
+-- `kernels::floor30` meets its contract: the digits shifted down, 0 where none is left.
 use borrow.Author.Needs.{needs}
 use mathlib.Core.Path.{sym, ap, _∙_, subst}
 use native.Mathlib.Omega.{arith}
 use Prim.Native.Nat.{ℕ, _-_, _/_, _^_, _<_}
-use Rattle.kernels.specs.Pattern.{fieldOf}
+use Rattle.kernels.specs.inner.Pattern.{fieldOf}
 use Rattle.kernels.proofs.Floor.{floor-zero, floor-shifted, floor-lt}
 use Rattle.kernels.proofs.floor30.Statement.{statement}
 use Rattle.kernels.proofs.floor30.Tie as tie

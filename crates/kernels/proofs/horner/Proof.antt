@@ -1,10 +1,10 @@
--- `kernels::horner` meets its contract. The invariant: what is left to do from k on, at h, gives the answer. Assumes nothing.
+-- `kernels::horner` meets its contract. The invariant: what is left to do from k on, at h, gives the answer.
 use borrow.Author.Needs.{needs}
 use mathlib.Core.Path.{_≡_, refl, sym, _∙_}
 use Prim.Native.Nat.{_≤_}
 use native.Mathlib.Omega.{arith}
 use lib.Ieee.{ofBits}
-use Rattle.order.specs.Float.{one}
+use Rattle.floats.specs.Float.{one}
 use Rattle.kernels.specs.Ln1m.{horner}
 use Rattle.kernels.proofs.Series.{turn, turned}
 use Rattle.kernels.proofs.horner.Statement.{statement}

@@ -1,4 +1,4 @@
--- `kernels::join` meets its contract: no step of it leaves an i64, and the sum is one that an f64 holds. Assumes nothing.
+-- `kernels::join` meets its contract: no step of it leaves an i64, and the sum is one that an f64 holds.
 use borrow.Author.Needs.{needs}
 use mathlib.Core.Path.{sym, subst}
 use lib.Dec.{T}

@@ -1,5 +1,4 @@
 -- `kernels::ln_fixed` meets its contract: the digits, their size and place, and the bits of the logarithm make up the definition's number.
--- Assumes nothing.
 use borrow.Author.Needs.{needs}
 use mathlib.Core.Path.{sym, ap, _∙_, subst}
 use native.Mathlib.Omega.{arith}
@@ -52,7 +51,8 @@ returns c =
     let back = toZ-ofZ w64 (c .join .result) (record { sfits = c .join .ok }) in (
       back
           ∙ c .join .ensures .0
-          ∙ parts (a .args .bits) (a .pre .0) (a .pre .1) (d .digits .result) (s .size-of .result) (p .place .result) (l .log-bits .result) (d .digits .ensures) (s .size-of .ensures .0) (p .place .ensures) (l .log-bits .ensures .0),
+          ∙ parts (a .args .bits) (a .pre .0) (a .pre .1) (d .digits .result) (s .size-of .result) (p .place .result)
+          (l .log-bits .result) (d .digits .ensures) (s .size-of .ensures .0) (p .place .ensures) (l .log-bits .ensures .0),
       subst (λ (z : ℤ). T (inFloat binary64 z)) (sym back) (c .join .ensures .1),
     )
 

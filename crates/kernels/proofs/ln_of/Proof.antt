@@ -1,4 +1,4 @@
--- `kernels::ln_of` meets its contract: the definition, by the tests on x and its bits. Assumes nothing.
+-- `kernels::ln_of` meets its contract: the definition, by the tests on x and its bits.
 use borrow.Author.Needs.{needs}
 use mathlib.Core.Path.{_≡_, sym, ap, _∙_, subst}
 use mathlib.Core.Bool.{false}

@@ -1,5 +1,4 @@
 -- `kernels::log_bits` meets its contract. The invariant: a is below 2^32, f has i bits, and the squarings left to do give the answer.
--- Assumes nothing.
 use mathlib.Core.Path.{_≡_, refl, sym, ap, _∙_, subst}
 use mathlib.Core.Logic.{⊎-elim}
 use Prim.Native.Nat.{ℕ, _+_, _-_, _*_, _/_, _^_, _<_}
@@ -42,8 +41,12 @@ loop-again c =
     let m = c .before .before .before .args .m in
     let h = c .before .loop-test .taken in
     ⊎-elim
-    (λ w. subst (λ (z : ℕ). Squared m (l .i + 1) z (c .if1 .f)) (sym (w .1)) (subst (λ (z : ℕ). Squared m (l .i + 1) (l .a * l .a / 2 ^ 31 / 2) z) (sym (w .2)) (one-kept m (l .i) (l .a) (l .f) (l .inv) h (w .0 .taken))))
-    (λ w. subst (λ (z : ℕ). Squared m (l .i + 1) z (c .if1 .f)) (sym (w .1)) (subst (λ (z : ℕ). Squared m (l .i + 1) (l .a * l .a / 2 ^ 31) z) (sym (w .2)) (zero-kept m (l .i) (l .a) (l .f) (l .inv) h (w .0 .left))))
+    (λ w. subst (λ (z : ℕ). Squared m (l .i + 1) z (c .if1 .f)) (sym (w .1))
+    (subst (λ (z : ℕ). Squared m (l .i + 1) (l .a * l .a / 2 ^ 31 / 2) z) (sym (w .2))
+    (one-kept m (l .i) (l .a) (l .f) (l .inv) h (w .0 .taken))))
+    (λ w. subst (λ (z : ℕ). Squared m (l .i + 1) z (c .if1 .f)) (sym (w .1))
+    (subst (λ (z : ℕ). Squared m (l .i + 1) (l .a * l .a / 2 ^ 31) z) (sym (w .2))
+    (zero-kept m (l .i) (l .a) (l .f) (l .inv) h (w .0 .left))))
     (c .if1 .came)
 
 returns : tie.Need-returns Inv-loop μ-loop

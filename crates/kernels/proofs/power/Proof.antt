@@ -1,4 +1,4 @@
--- `kernels::power` meets its contract: the first seven steps from the table, then the others. Assumes nothing.
+-- `kernels::power` meets its contract: the first seven steps from the table, then the others.
 use borrow.Author.Needs.{needs}
 use mathlib.Core.Path.{sym, subst}
 use Prim.Native.Nat.{ℕ, _/_, _^_, _≤_}

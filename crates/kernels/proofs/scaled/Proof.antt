@@ -1,4 +1,4 @@
--- `kernels::scaled` meets its contract: the bits are those of 2^-k, and the product is one rounding. Assumes nothing.
+-- `kernels::scaled` meets its contract: the bits are those of 2^-k, and the product is one rounding.
 use borrow.Author.Needs.{needs}
 use lib.Dec.{le→leb}
 use lib.Ieee.{inFloat}

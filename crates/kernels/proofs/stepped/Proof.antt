@@ -1,4 +1,4 @@
--- `kernels::stepped` meets its contract: the factor is c or 2^31 by the bit, and no step passes 2^31. Assumes nothing.
+-- `kernels::stepped` meets its contract: the factor is c or 2^31 by the bit, and no step passes 2^31.
 use borrow.Author.Needs.{needs}
 use mathlib.Core.Path.{sym, ap, _∙_, subst}
 use native.Mathlib.Omega.{arith}

@@ -1,4 +1,4 @@
--- `kernels::steps_over` meets its contract. The invariant: the steps left to do, from r on, give the answer. Assumes nothing.
+-- `kernels::steps_over` meets its contract. The invariant: the steps left to do, from r on, give the answer.
 use borrow.Author.Needs.{needs}
 use mathlib.Core.Path.{_≡_, refl, sym, ap, _∙_}
 use native.Mathlib.Omega.{arith}
@@ -52,7 +52,8 @@ loop-again c =
     let l = c .before .before .loop in
     let p = c .before .before .before .args in
     let inside = c .before .loop-test .taken in
-    let left = ap (steps (part constants (l .i + 1) (p .to)) (p .g)) (c .stepped .ensures .0) ∙ sym (first-step constants (l .i) (p .to) (p .g) (l .r) inside (l .inv .1)) in
+    let left = ap (steps (part constants (l .i + 1) (p .to)) (p .g)) (c .stepped .ensures .0)
+    ∙ sym (first-step constants (l .i) (p .to) (p .g) (l .r) inside (l .inv .1)) in
     (omega (arith, inside), l .inv .1, c .stepped .ensures .1, left ∙ l .inv .3)
 
 returns : tie.Need-returns Inv-loop μ-loop

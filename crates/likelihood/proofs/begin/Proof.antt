@@ -1,4 +1,4 @@
--- `likelihood::begin` meets its contract, by its one test. Assumes nothing.
+-- `likelihood::begin` meets its contract, by its one test.
 use borrow.Author.Needs.{needs}
 use Rattle.likelihood.proofs.begin.Statement.{statement}
 use Rattle.likelihood.proofs.begin.Tie as tie

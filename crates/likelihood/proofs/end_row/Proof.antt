@@ -1,13 +1,13 @@
--- `likelihood::end_row` meets its contract. The loop's invariant, `Laid`: the first j entries stand at the front. Assumes nothing.
+-- `likelihood::end_row` meets its contract. The loop's invariant, `Laid`: the first j entries stand at the front.
 use borrow.Author.Needs.{needs}
 use native.Mathlib.Omega.{arith}
 use native.Mathlib.Nat.{zero-add}
 use Prim.Native.Nat.{_-_}
 use mathlib.Core.Path.{sym}
 use lib.ListN.{length}
-use Rattle.order.specs.Float.{at, minusInfinity}
-use Rattle.rows.proofs.Over.{tab-own}
-use Rattle.rows.proofs.Laid.{Laid, laid-none, laid-more, laid-done}
+use Rattle.floats.specs.Float.{at, minusInfinity}
+use Rattle.lists.proofs.Over.{tab-own}
+use Rattle.lists.proofs.Laid.{Laid, laid-none, laid-more, laid-done}
 use Rattle.likelihood.proofs.end_row.Statement.{statement}
 use Rattle.likelihood.proofs.end_row.Tie as tie
 
@@ -37,7 +37,8 @@ loop-less c = search needs
 
 loop-again : tie.Need-loop-again Inv-loop μ-loop
 loop-again c =
-    laid-more _ _ _ _ _ _ _ _ (c .before .before .loop .inv) (c .before .loop-test .taken) (omega arith) (sym (zero-add _)) (c .entry .ensures)
+    let turn = c .before in
+    laid-more _ _ _ _ _ _ _ _ (turn .before .loop .inv) (turn .loop-test .taken) (omega arith) (sym (zero-add _)) (c .entry .ensures)
 
 same-length : tie.Need-same-length Inv-loop μ-loop
 same-length c = search needs

@@ -1,14 +1,14 @@
--- `likelihood::end_sum` meets its contract. The loop's invariant, `Laid`: the first k terms stand at the front of the array. Assumes nothing.
+-- `likelihood::end_sum` meets its contract. The loop's invariant, `Laid`: the first k terms stand at the front of the array.
 use borrow.Author.Needs.{needs}
 use native.Mathlib.Omega.{arith}
 use native.Mathlib.Nat.{zero-add}
 use Prim.Native.Nat.{_-_}
 use mathlib.Core.Path.{sym, ap₂}
-use Rattle.order.specs.Float.{_⊕_}
-use Rattle.rows.proofs.Laid.{Laid, laid-none, laid-more, laid-done}
+use Rattle.floats.specs.Float.{_⊕_}
+use Rattle.lists.proofs.Laid.{Laid, laid-none, laid-more, laid-done}
 use lib.Seq.{length-take-le}
-use Rattle.likelihood.specs.Inner.{ending}
-use Rattle.likelihood.proofs.Terms.{sum-front}
+use Rattle.probs.proofs.Terms.{sum-front}
+use Rattle.likelihood.specs.inner.Sum.{ending}
 use Rattle.likelihood.proofs.end_sum.Statement.{statement}
 use Rattle.likelihood.proofs.end_sum.Tie as tie
 
@@ -41,8 +41,9 @@ loop-less c = search needs
 
 loop-again : tie.Need-loop-again Inv-loop μ-loop
 loop-again c =
-    laid-more _ _ _ _ _ _ _ _ (c .before .before .before .loop .inv) (c .before .before .loop-test .taken) (search needs) (sym (zero-add _))
-    (ap₂ _⊕_ (c .before .entry .ensures) (c .entry2 .ensures))
+    let turn = c .before .before in
+    let is = ap₂ _⊕_ (c .before .entry .ensures) (c .entry2 .ensures) in
+    laid-more _ _ _ _ _ _ _ _ (turn .before .loop .inv) (turn .loop-test .taken) (search needs) (sym (zero-add _)) is
 
 array-share-prefix-terms : tie.Need-array-share-prefix-terms Inv-loop μ-loop
 array-share-prefix-terms c = search needs

@@ -1,7 +1,8 @@
--- `likelihood::last_sum` meets its contract, by its one test. Assumes nothing.
+-- `likelihood::last_sum` meets its contract, by its one test.
 use borrow.Author.Needs.{needs}
 use mathlib.Core.Path.{_∙_}
-use Rattle.likelihood.specs.Inner.{lastSum}
+use Rattle.probs.proofs.Loops.{closed-done}
+use Rattle.likelihood.specs.inner.Sum.{lastSum}
 use Rattle.likelihood.proofs.Strides.{last-readable, last-backward}
 use Rattle.likelihood.proofs.last_sum.Statement.{statement}
 use Rattle.likelihood.proofs.last_sum.Tie as tie
@@ -14,8 +15,8 @@ close-sum-requires c κs = search needs
 
 returns : tie.Need-returns
 returns c =
-    let pre = c .before .before .before .before .before .before .before .pre in
-    rw (c .before .before .if1 .taken) (last-backward _ _ _ _ pre _ (c .close-sum .ensures ∙ c .before .row-sum .ensures))
+    let called = c .before in
+    rw (called .before .if1 .taken) (c .close-sum .ensures ∙ closed-done _ _ _ (called .row-sum .ensures) ∙ last-backward _ _ _ _)
 
 end-sum-requires : tie.Need-end-sum-requires
 end-sum-requires c κs = search needs

@@ -1,13 +1,16 @@
--- `likelihood::next_row` meets its contract. The loop's invariant, `Laid`: the first j cells of the row stand. Assumes nothing.
+-- `likelihood::next_row` meets its contract. The loop's invariant, `Laid`: the first j cells of the row stand.
 use borrow.Author.Needs.{needs}
 use native.Mathlib.Omega.{arith}
-use denote.Ref.{now}
-use Rattle.rows.proofs.Over.{length-part}
 use Prim.Native.Nat.{ℕ, _+_, _-_}
-use mathlib.Core.Path.{_≡_, refl, _∙_}
-use Rattle.rows.proofs.Laid.{Laid, laid-none, laid-more, laid-done}
+use mathlib.Core.Path.{_≡_, refl, ap₂, _∙_}
+use denote.Ref.{now}
 use lib.ListN.{take, drop}
-use Rattle.likelihood.specs.Inner.{cellOf}
+use lib.Ieee.{Float}
+use Rattle.lists.proofs.Over.{length-part}
+use Rattle.lists.proofs.Laid.{Laid, laid-none, laid-more, laid-done}
+use Rattle.probs.specs.inner.Open.{closedSum}
+use Rattle.probs.proofs.Loops.{closed-done}
+use Rattle.likelihood.specs.inner.Row.{cellOf}
 use Rattle.likelihood.proofs.next_row.Statement.{statement}
 use Rattle.likelihood.proofs.next_row.Tie as tie
 
@@ -17,6 +20,9 @@ Inv-loop back values₀ at transition emissions states base row j₀ values j =
 
 abbrev μ-loop : tie.MeasureT-loop
 μ-loop back values₀ at transition emissions states base row j₀ values j = states - j
+
+abbrev start : tie.After-open-row-arg Inv-loop μ-loop → tie.Start Inv-loop μ-loop
+start c = c .before .before .before .before .before
 
 -- the row before, as `open_row` is passed it, is as long as there are states
 whole : (at states : ℕ) → at + states - at ≡ states
@@ -39,15 +45,9 @@ part-open-row-end c = search needs
 
 open-row-requires : tie.Need-open-row-requires Inv-loop μ-loop
 open-row-requires c κs =
-    let a = c .before .before .before .before .before .args in
-    let p = c .before .before .before .before .before .pre in
-    rw (whole (a .at) (a .states))
-    record {
-      fewStates = p .fewStates;
-      rowLength = length-part (a .at) (a .states) (now (a .values)) (omega (arith, p .room));
-      transitionLength = p .transitionLength;
-      emissionsLength = p .emissionsLength;
-    }
+    let s = start c in
+    let a = s .args in
+    (s .pre .0, rw (whole (a .at) (a .states)) (length-part (a .at) (a .states) (now (a .values)) (omega (arith, s .pre .1))))
 
 loop-holds : tie.Need-loop-holds Inv-loop μ-loop
 loop-holds c = laid-none _ _ _ _
@@ -84,11 +84,14 @@ loop-less c = search needs
 
 loop-again : tie.Need-loop-again Inv-loop μ-loop
 loop-again c =
-    let a = c .before .before .before .before .before .before .before .before .before .before .before .args in
-    let p = c .before .before .before .before .before .before .before .before .before .before .before .pre in
-    let inside = c .before .before .before .loop-test .taken in
-    let sum = rw (whole (a .at) (a .states)) at (c .before .before .before .before .before .open-row .ensures .closes _ inside) in
-    laid-more _ _ _ _ _ _ _ _ (c .before .before .before .before .loop .inv) inside (omega (arith, p .room)) refl (c .close-sum .ensures ∙ sum)
+    let turn = c .before .before .before in
+    let called = turn .before .before in
+    let s = start (called .before) in
+    let inside = turn .loop-test .taken in
+    let row = rw (whole (s .args .at) (s .args .states)) at (called .open-row .ensures) in
+    let sum = ap₂ (λ (x y : Float). closedSum (record { value = x; sum = y })) (row .greatest .is _ inside) (row .others .is _ inside) in
+    laid-more _ _ _ _ _ _ _ _ (turn .before .loop .inv) inside (omega (arith, s .pre .1)) refl
+    (c .close-sum .ensures ∙ sum ∙ closed-done _ _ _ refl)
 
 same-length : tie.Need-same-length Inv-loop μ-loop
 same-length c = search needs

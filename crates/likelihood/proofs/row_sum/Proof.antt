@@ -1,15 +1,14 @@
--- `likelihood::row_sum` meets its contract. The loop's invariant, `Laid`: the first k terms stand at the front of the array. Assumes nothing.
+-- `likelihood::row_sum` meets its contract. The loop's invariant, `Laid`: the first k terms stand at the front of the array.
 use borrow.Author.Needs.{needs}
 use native.Mathlib.Omega.{arith}
 use native.Mathlib.Nat.{zero-add}
 use Prim.Native.Nat.{_-_}
-use mathlib.Core.Path.{sym, ap₂}
+use mathlib.Core.Path.{sym, ap₂, _∙_}
 use lib.Seq.{length-take-le}
-use Rattle.order.specs.Float.{_⊕_}
-use Rattle.probs.proofs.Loops.{closed-done}
-use Rattle.likelihood.specs.Inner.{term}
-use Rattle.rows.proofs.Laid.{Laid, laid-none, laid-more, laid-done}
-use Rattle.likelihood.proofs.Terms.{sum-front}
+use Rattle.floats.specs.Float.{_⊕_}
+use Rattle.lists.proofs.Laid.{Laid, laid-none, laid-more, laid-done}
+use Rattle.likelihood.specs.inner.Sum.{term}
+use Rattle.likelihood.proofs.Fronts.{opened-front}
 use Rattle.likelihood.proofs.row_sum.Statement.{statement}
 use Rattle.likelihood.proofs.row_sum.Tie as tie
 
@@ -19,6 +18,10 @@ Inv-loop row arcs arc emissions emission n terms₀ k₀ terms k = Laid n 0 (ter
 abbrev μ-loop : tie.MeasureT-loop
 μ-loop row arcs arc emissions emission n terms₀ k₀ terms k = n - k
 
+-- the function's entry, as seen from a turn
+abbrev start : tie.In-loop Inv-loop μ-loop → tie.Start Inv-loop μ-loop
+start c = c .before .before .before .before .before
+
 loop-holds : tie.Need-loop-holds Inv-loop μ-loop
 loop-holds c = laid-none _ _ _ _
 
@@ -26,10 +29,10 @@ entry-requires : tie.Need-entry-requires Inv-loop μ-loop
 entry-requires c κs = search needs
 
 strided-requires : tie.Need-strided-requires Inv-loop μ-loop
-strided-requires c κs = c .before .before .before .before .before .before .pre .arcsWithin _ (c .before .loop-test .taken)
+strided-requires c κs = start (c .before) .pre .arcsWithin _ (c .before .loop-test .taken)
 
 strided-requires-2 : tie.Need-strided-requires-2 Inv-loop μ-loop
-strided-requires-2 c κs = c .before .before .before .before .before .before .before .pre .emissionsWithin _ (c .before .before .loop-test .taken)
+strided-requires-2 c κs = let turn = c .before .before in start turn .pre .emissionsWithin _ (turn .loop-test .taken)
 
 mul-terms : tie.Need-mul-terms Inv-loop μ-loop
 mul-terms c = search needs
@@ -45,8 +48,9 @@ loop-less c = search needs
 
 loop-again : tie.Need-loop-again Inv-loop μ-loop
 loop-again c =
+    let turn = c .before .before .before in
     let is = ap₂ _⊕_ (ap₂ _⊕_ (c .before .before .entry .ensures) (c .before .strided .ensures)) (c .strided2 .ensures) in
-    laid-more _ _ _ _ _ _ _ _ (c .before .before .before .before .loop .inv) (c .before .before .before .loop-test .taken) (search needs) (sym (zero-add _)) is
+    laid-more _ _ _ _ _ _ _ _ (turn .before .loop .inv) (turn .loop-test .taken) (search needs) (sym (zero-add _)) is
 
 array-share-prefix-terms : tie.Need-array-share-prefix-terms Inv-loop μ-loop
 array-share-prefix-terms c = search needs
@@ -60,7 +64,7 @@ open-sum-requires c κs = search needs
 returns : tie.Need-returns Inv-loop μ-loop
 returns c =
     let inv = c .before .before .before .loop .inv in
-    sum-front _ _ _ _ _ (laid-done _ _ _ _ _ _ inv (search needs)) (closed-done _ _ _ (c .open-sum .ensures))
+    c .open-sum .ensures ∙ opened-front _ _ _ _ (laid-done _ _ _ _ _ _ inv (search needs))
 
 pub row-sum-spec : {M : Type 1} → statement M
 row-sum-spec =

@@ -1,9 +1,9 @@
--- `model::entry` meets its contract: below the length, what is read past the end does not matter. Assumes nothing.
+-- `model::entry` meets its contract: below the length, what is read past the end does not matter.
 use lib.Ieee.{nan}
 use denote.Ref.{now}
 use borrow.Author.Needs.{needs}
-use Rattle.order.specs.Float.{minusInfinity}
-use Rattle.rows.proofs.Over.{getD-any}
+use Rattle.floats.specs.Float.{minusInfinity}
+use Rattle.lists.proofs.Over.{getD-any}
 use Rattle.model.proofs.entry.Statement.{statement}
 use Rattle.model.proofs.entry.Tie as tie
 

@@ -1,4 +1,4 @@
--- `model::is_good` meets its contract: the literal is +0.0. Assumes nothing.
+-- `model::is_good` meets its contract: the literal is +0.0.
 use mathlib.Core.Path.{refl}
 use lib.Ieee.{ofBits}
 use Rattle.model.specs.Good.{good}

@@ -1,4 +1,4 @@
--- `model::is_good_end` meets its contract: the rule is picked by the flag. Assumes nothing.
+-- `model::is_good_end` meets its contract: the rule is picked by the flag.
 use borrow.Author.Needs.{needs}
 use Rattle.model.specs.Good.{goodEnd}
 use Rattle.model.proofs.is_good_end.Statement.{statement}

@@ -1,12 +1,12 @@
--- `probs::first_nan` meets its contract. The loop's invariant, `Passed`: every entry below i is a number. Assumes nothing.
+-- `probs::first_nan` meets its contract. The loop's invariant, `Passed`: every entry below i is a number.
 use borrow.Author.Needs.{needs}
 use Prim.Native.Nat.{_-_}
 use borrow.Author.Tests.{not-true, not-false}
 use mathlib.Core.Path.{sym, _∙_}
 use lib.ListN.{length}
 use lib.Ieee.{nan}
-use Rattle.order.specs.Float.{isNumber}
-use Rattle.rows.proofs.Scan.{Passed, passed-none, passed-more, passed-stop, passed-all}
+use Rattle.floats.specs.Float.{isNumber}
+use Rattle.lists.proofs.Scan.{Passed, passed-none, passed-more, passed-stop, passed-all}
 use Rattle.probs.proofs.first_nan.Statement.{statement}
 use Rattle.probs.proofs.first_nan.Tie as tie
 

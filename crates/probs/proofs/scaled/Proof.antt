@@ -1,4 +1,4 @@
--- `probs::scaled` meets its contract, by its one test. Assumes nothing.
+-- `probs::scaled` meets its contract, by its one test.
 use borrow.Author.Needs.{needs}
 use mathlib.Core.Path.{sym, _∙_}
 use Rattle.probs.specs.Calls.{scaledAnswer}

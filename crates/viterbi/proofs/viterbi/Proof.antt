@@ -1,21 +1,29 @@
--- `viterbi::viterbi` meets its contract, in each of the three ways in which it returns. Assumes nothing.
+-- `viterbi::viterbi` meets its contract, in each of the three ways in which it returns.
 use mathlib.Core.Path.{_≡_, sym, ap, _∙_}
 use mathlib.Core.Bool.{true, false}
 use native.Mathlib.Omega.{arith}
 use denote.Ref.{now}
 use borrow.Author.Needs.{needs}
 use borrow.Author.Tests.{not-true, not-false}
+use Rattle.floats.specs.Float.{at}
 use Rattle.answer.specs.Answer.{isDone, done}
 use Rattle.model.specs.Lent.{Lent, lent}
-use Rattle.model.specs.Accepted.{LetThrough}
-use Rattle.model.proofs.Done.{let-through}
+use Rattle.checks.specs.LetThrough.{LetThrough}
+use Rattle.checks.proofs.Done.{let-through}
 use Rattle.viterbi.specs.Call.{Outputs, outputs, rooms, checked}
 use Rattle.viterbi.proofs.Outcome.{is-refused, is-empty, is-walked}
 use Rattle.viterbi.proofs.viterbi.Statement.{statement}
 use Rattle.viterbi.proofs.viterbi.Tie as tie
 
+abbrev start : tie.After-shared-slice-known5 → tie.Start
+start c = c .before .before .before .before .before
+
 abbrev entered : tie.After-is-done → tie.Start
-entered c = c .before .before .before .before .before .before .before .before .before .before
+entered c = start (c .before .before .before .before .before)
+
+-- the walk is made here, and its outputs are left there
+abbrev walk : tie.After-slice-known6 → tie.After-slice-known4
+walk c = c .before .before .before .before
 
 -- what is lent: inputs, and outputs
 abbrev given : tie.After-is-done → Lent
@@ -51,7 +59,8 @@ done-requires c κs = search needs
 returns-2 : tie.Need-returns-2
 returns-2 c =
     let p = c .before .before .before in
-    is-empty (given (p .before)) (lentOut (p .before)) _ (passed p) (c .before .before .if2 .taken) (c .done .ensures ∙ ap done (c .before .minus-infinity .ensures))
+    is-empty (given (p .before)) (lentOut (p .before)) _ (passed p) (c .before .before .if2 .taken)
+    (c .done .ensures ∙ ap done (c .before .minus-infinity .ensures))
 
 decode-requires : tie.Need-decode-requires
 decode-requires c κs =
@@ -59,20 +68,20 @@ decode-requires c κs =
     let p = e .before in
     let t = p .before in
     let h : LetThrough false (rooms (given t) (lentOut t)) (given t) = let-through false _ (given t) (passed p) in
-    let a = h .accepted in (
-      record {
-        someState = a .someState;
-        fewStates = a .fewStates;
-        transitionLength = a .transitionLength;
-        emissionLength = a .emissionLength;
-        initialLength = a .initialLength;
-        known = a .known;
-        someSample = omega (arith, e .if2 .left);
+    let m = h .accepted .tables in
+    record {
+      walkable = record {
+        someState = m .someState;
+        fewStates = m .fewStates;
+        transitionLength = m .transitionLength;
+        initialLength = m .initialLength;
         valuesRoom = h .roomy .1 .0;
         fromRoom = h .roomy .1 .1 .0;
-      },
-      h .roomy .0,
-    )
+      };
+      symbolic = record { emissionLength = m .emissionLength; known = h .accepted .samples .known };
+      someSample = omega (arith, e .if2 .left);
+      pathRoom = h .roomy .0;
+    }
 
 done-requires-2 : tie.Need-done-requires-2
 done-requires-2 c κs = search needs
@@ -88,9 +97,11 @@ same-length-3 c = search needs
 
 returns-3 : tie.Need-returns-3
 returns-3 c =
-    let d = c .before .before .before .before .before .before .before in
+    let d = walk (c .before) .before .before in
     let p = d .before .before .before .before .before in
-    is-walked (given (p .before)) (lentOut (p .before)) _ (passed p) _ _ (d .decode .ensures) (c .done2 .ensures)
+    let m = given (p .before) .tables in
+    let found = d .decode .ensures (m .shape .ends) (at (m .end)) in
+    is-walked (given (p .before)) (lentOut (p .before)) _ (passed p) _ _ found (c .done2 .ensures)
 
 pub viterbi-spec : {M : Type 1} → statement M
 viterbi-spec =

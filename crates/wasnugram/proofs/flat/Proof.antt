@@ -1,4 +1,4 @@
--- `wasnugram::flat` meets its contract: the number is that of the answer's refusal. Assumes nothing.
+-- `wasnugram::flat` meets its contract: the number is that of the answer's refusal.
 use Prim.Native.Nat.{ℕ}
 use mathlib.Core.Path.{ap}
 use borrow.Author.Needs.{needs}

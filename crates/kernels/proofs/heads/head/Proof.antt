@@ -1,4 +1,4 @@
--- `kernels::heads::head` meets its contract: each entry computes, and all of them are checked in the one statement at the end. Assumes nothing.
+-- `kernels::heads::head` meets its contract: each entry computes, and all of them are checked in the one statement at the end.
 use borrow.Author.Needs.{needs}
 use mathlib.Core.Path.{_≡_, sym, ap}
 use Prim.Native.Nat.{ℕ, _^_}

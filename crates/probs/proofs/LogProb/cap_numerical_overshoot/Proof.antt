@@ -1,4 +1,4 @@
--- `probs::LogProb::cap_numerical_overshoot` meets its contract, by its tests in order. Assumes nothing.
+-- `probs::LogProb::cap_numerical_overshoot` meets its contract, by its tests in order.
 use borrow.Author.Needs.{needs}
 use borrow.Author.Tests.{not-true, not-false}
 use mathlib.Core.Path.{sym, _∙_}
@@ -33,8 +33,9 @@ done-requires-2 c κs = search needs
 returns-3 : tie.Need-returns-3
 unfolding ofBits
 returns-3 c =
-    let number = sym (c .before .before .before .before .before .before .is-number .ensures) ∙ not-false _ (c .before .before .before .before .before .if1 .left) in
-    c .done2 .ensures ∙ sym (in-reach _ _ number (c .before .before .before .if2 .left) (c .before .if3 .taken))
+    let second = c .before .before .before in
+    let number = sym (second .before .before .before .is-number .ensures) ∙ not-false _ (second .before .before .if1 .left) in
+    c .done2 .ensures ∙ sym (in-reach _ _ number (second .if2 .left) (c .before .if3 .taken))
 
 refused-requires-2 : tie.Need-refused-requires-2
 refused-requires-2 c κs = search needs
@@ -42,8 +43,9 @@ refused-requires-2 c κs = search needs
 returns-4 : tie.Need-returns-4
 unfolding ofBits
 returns-4 c =
-    let number = sym (c .before .before .before .before .before .before .is-number .ensures) ∙ not-false _ (c .before .before .before .before .before .if1 .left) in
-    c .refused2 .ensures ∙ sym (out-of-reach _ _ number (c .before .before .before .if2 .left) (c .before .if3 .left))
+    let second = c .before .before .before in
+    let number = sym (second .before .before .before .is-number .ensures) ∙ not-false _ (second .before .before .if1 .left) in
+    c .refused2 .ensures ∙ sym (out-of-reach _ _ number (second .if2 .left) (c .before .if3 .left))
 
 pub cap-numerical-overshoot-spec : {M : Type 1} → statement M
 cap-numerical-overshoot-spec =

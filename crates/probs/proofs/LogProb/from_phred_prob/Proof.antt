@@ -1,4 +1,4 @@
--- `probs::LogProb::from_phred_prob` meets its contract: the factor's literal is the decimal's nearest f64. Assumes nothing.
+-- `probs::LogProb::from_phred_prob` meets its contract: the factor's literal is the decimal's nearest f64.
 use borrow.Author.Needs.{needs}
 use Rattle.probs.proofs.Factors.{phred-to-log}
 use Rattle.probs.proofs.LogProb.from_phred_prob.Statement.{statement}

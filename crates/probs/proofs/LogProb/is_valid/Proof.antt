@@ -1,4 +1,4 @@
--- `probs::LogProb::is_valid` meets its contract: its one comparison is false for NaN. Assumes nothing.
+-- `probs::LogProb::is_valid` meets its contract: its one comparison is false for NaN.
 use mathlib.Core.Path.{refl}
 use lib.Ieee.{ofBits}
 use Rattle.probs.proofs.LogProb.is_valid.Statement.{statement}

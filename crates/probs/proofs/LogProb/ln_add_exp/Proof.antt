@@ -1,4 +1,4 @@
--- `probs::LogProb::ln_add_exp` meets its contract: a NaN is refused by its number. Assumes nothing.
+-- `probs::LogProb::ln_add_exp` meets its contract: a NaN is refused by its number.
 use borrow.Author.Needs.{needs}
 use borrow.Author.Tests.{lt-ltb, le-ltb}
 use Rattle.probs.specs.Calls.{unlessNan}

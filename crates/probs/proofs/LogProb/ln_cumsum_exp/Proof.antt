@@ -1,4 +1,4 @@
--- `probs::LogProb::ln_cumsum_exp` meets its contract: a short output is refused, then the first NaN, and neither writes. Assumes nothing.
+-- `probs::LogProb::ln_cumsum_exp` meets its contract: a short output is refused, then the first NaN, and neither writes.
 use borrow.Author.Needs.{needs}
 use borrow.Author.Tests.{lt-ltb, le-ltb}
 use Rattle.probs.specs.Calls.{unlessNan, lnCumsumExpAnswer}
@@ -40,10 +40,12 @@ same-length c = search needs
 returns-3 : tie.Need-returns-3
 unfolding lnCumsumExpAnswer unlessNan
 returns-3 c =
-    let room = le-ltb _ _ (c .before .before .before .before .before .before .before .if1 .left) in
-    let first = c .before .before .before .before .before .before .first-nan .ensures in
-    let good = le-ltb _ _ (c .before .before .before .before .before .if2 .left) in
-    let scan = c .before .before .before .scan-ln-add-exp .ensures in
+    let scanned = c .before .before .before in
+    let found = scanned .before .before .before in
+    let room = le-ltb _ _ (found .before .if1 .left) in
+    let first = found .first-nan .ensures in
+    let good = le-ltb _ _ (scanned .before .before .if2 .left) in
+    let scan = scanned .scan-ln-add-exp .ensures in
     record { answer = rw (room, ← first, good, ← scan .0) (c .done .ensures); output = rw (room, ← first, good) (scan .1) }
 
 pub ln-cumsum-exp-spec : {M : Type 1} → statement M

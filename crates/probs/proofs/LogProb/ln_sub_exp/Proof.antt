@@ -1,4 +1,4 @@
--- `probs::LogProb::ln_sub_exp` meets its contract: a NaN is refused by its number, then a greater second number. Assumes nothing.
+-- `probs::LogProb::ln_sub_exp` meets its contract: a NaN is refused by its number, then a greater second number.
 use borrow.Author.Needs.{needs}
 use borrow.Author.Tests.{lt-ltb, le-ltb}
 use Rattle.probs.specs.Calls.{unlessNan}
@@ -37,9 +37,10 @@ done-requires c κs = search needs
 returns-3 : tie.Need-returns-3
 unfolding unlessNan
 returns-3 c =
-    let first = c .before .before .before .before .before .before .first-nan .ensures in
-    let numbers = le-ltb _ _ (c .before .before .before .before .before .if1 .left) in
-    rw (← first, numbers, c .before .before .if2 .left, ← c .before .ln-sub .ensures) (c .done .ensures)
+    let second = c .before .before in
+    let first = second .before .before .before .before .first-nan .ensures in
+    let numbers = le-ltb _ _ (second .before .before .before .if1 .left) in
+    rw (← first, numbers, second .if2 .left, ← c .before .ln-sub .ensures) (c .done .ensures)
 
 pub ln-sub-exp-spec : {M : Type 1} → statement M
 ln-sub-exp-spec =

@@ -1,4 +1,4 @@
--- `probs::LogProb::ln_sum_exp` meets its contract: the first NaN is refused by its index. Assumes nothing.
+-- `probs::LogProb::ln_sum_exp` meets its contract: the first NaN is refused by its index.
 use borrow.Author.Needs.{needs}
 use borrow.Author.Tests.{lt-ltb, le-ltb}
 use Rattle.probs.specs.Calls.{unlessNan}

@@ -1,4 +1,4 @@
--- `probs::LogProb::scan_ln_add_exp` meets its contract. The loop's invariant: s is the sum of the i entries met, and the sums so far are laid over the front. Assumes nothing.
+-- `probs::LogProb::scan_ln_add_exp` meets its contract. The loop's invariant: s is the sum of the i entries met, and the sums so far are laid over the front.
 use borrow.Author.Needs.{needs}
 use native.Mathlib.Omega.{arith}
 use native.Mathlib.Nat.{zero-add}
@@ -7,9 +7,9 @@ use mathlib.Core.Path.{_≡_, refl, sym, _∙_}
 use denote.Ref.{now}
 use lib.ListN.{length, length-set}
 use lib.Ieee.{nan}
-use Rattle.order.specs.Float.{at, minusInfinity}
-use Rattle.rows.specs.Lists.{tab, over}
-use Rattle.rows.proofs.Over.{getD-any, over-tab-none, over-tab-more}
+use Rattle.floats.specs.Float.{at, minusInfinity}
+use Rattle.lists.specs.Lists.{tab, over}
+use Rattle.lists.proofs.Over.{getD-any, over-tab-none, over-tab-more}
 use Rattle.probs.specs.Pair.{lnCumsum}
 use Rattle.probs.proofs.Loops.{cumsum-none, cumsum-more}
 use Rattle.probs.proofs.LogProb.scan_ln_add_exp.Statement.{statement}
@@ -54,9 +54,11 @@ loop-less c = search needs
 
 loop-again : tie.Need-loop-again Inv-loop μ-loop
 loop-again c =
-    let l = c .before .before .before .loop in
-    let probs = now (c .before .before .before .before .before .before .before .args .probs) in
-    let s = cumsum-more (at probs) (l .i) _ _ _ (l .inv .2) (getD-any probs _ nan minusInfinity (c .before .before .loop-test .taken)) (c .ln-add .ensures) in
+    let turn = c .before .before .before in
+    let l = turn .loop in
+    let probs = now (turn .before .before .before .before .args .probs) in
+    let term = getD-any probs _ nan minusInfinity (c .before .before .loop-test .taken) in
+    let s = cumsum-more (at probs) (l .i) _ _ _ (l .inv .2) term (c .ln-add .ensures) in
     (search needs, simp length-set (l .inv .1), s, over-tab-more _ _ _ _ _ _ _ (l .inv .3) (sym (zero-add _)) (omega arith) s)
 
 same-length : tie.Need-same-length Inv-loop μ-loop

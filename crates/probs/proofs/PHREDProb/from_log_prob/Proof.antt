@@ -1,4 +1,4 @@
--- `probs::PHREDProb::from_log_prob` meets its contract: the factor's literal is the decimal's nearest f64. Assumes nothing.
+-- `probs::PHREDProb::from_log_prob` meets its contract: the factor's literal is the decimal's nearest f64.
 use borrow.Author.Needs.{needs}
 use Rattle.probs.proofs.Factors.{log-to-phred}
 use Rattle.probs.proofs.PHREDProb.from_log_prob.Statement.{statement}

@@ -1,4 +1,4 @@
--- `probs::Prob::checked` meets its contract, by its two tests. Assumes nothing.
+-- `probs::Prob::checked` meets its contract, by its two tests.
 use borrow.Author.Needs.{needs}
 use mathlib.Core.Logic.{⊎-elim}
 use lib.Ieee.{ofBits}

@@ -1,4 +1,4 @@
--- `probs::pair::is_near` meets its contract, by its two tests. Assumes nothing.
+-- `probs::pair::is_near` meets its contract, by its two tests.
 use borrow.Author.Needs.{needs}
 use lib.Ieee.{ofBits}
 use Rattle.probs.specs.Pair.{isNear}

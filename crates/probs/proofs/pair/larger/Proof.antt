@@ -1,4 +1,4 @@
--- `probs::pair::larger` meets its contract, by its one test. Assumes nothing.
+-- `probs::pair::larger` meets its contract, by its one test.
 use borrow.Author.Needs.{needs}
 use Rattle.probs.specs.Pair.{larger}
 use Rattle.probs.proofs.pair.larger.Statement.{statement}

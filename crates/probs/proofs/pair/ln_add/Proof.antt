@@ -1,4 +1,4 @@
--- `probs::pair::ln_add` meets its contract, by its two tests. Assumes nothing.
+-- `probs::pair::ln_add` meets its contract, by its two tests.
 use borrow.Author.Needs.{needs}
 use mathlib.Core.Path.{sym, _∙_}
 use Rattle.probs.specs.Pair.{lnAdd}

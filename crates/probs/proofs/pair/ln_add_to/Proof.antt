@@ -1,4 +1,4 @@
--- `probs::pair::ln_add_to` meets its contract, by its one test. Assumes nothing.
+-- `probs::pair::ln_add_to` meets its contract, by its one test.
 use borrow.Author.Needs.{needs}
 use mathlib.Core.Path.{sym, _∙_}
 use lib.Ieee.{ofBits}

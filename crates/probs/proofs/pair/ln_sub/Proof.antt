@@ -1,4 +1,4 @@
--- `probs::pair::ln_sub` meets its contract, by its three tests. Assumes nothing.
+-- `probs::pair::ln_sub` meets its contract, by its three tests.
 use borrow.Author.Needs.{needs}
 use mathlib.Core.Path.{sym, _∙_}
 use Rattle.probs.specs.Pair.{lnSub}
@@ -41,8 +41,9 @@ ln-1m-of-requires c κs = search needs
 returns-4 : tie.Need-returns-4
 unfolding lnSub
 returns-4 c =
-    let some = sym (c .before .before .before .before .before .before .is-minus-infinity .ensures) ∙ c .before .before .before .before .before .if1 .left in
-    let apart = sym (c .before .before .before .before .relative-eq .ensures) ∙ c .before .before .before .if2 .left in
+    let second = c .before .before .before in
+    let some = sym (second .before .before .before .is-minus-infinity .ensures) ∙ second .before .before .if1 .left in
+    let apart = sym (second .before .relative-eq .ensures) ∙ second .if2 .left in
     let finite = sym (c .before .before .is-plus-infinity .ensures) ∙ c .before .if3 .left in
     rw (some, apart, finite, c .ln-1m-of .ensures)
 

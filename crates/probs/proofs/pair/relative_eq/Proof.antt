@@ -1,4 +1,4 @@
--- `probs::pair::relative_eq` meets its contract, by its tests in order. Assumes nothing.
+-- `probs::pair::relative_eq` meets its contract, by its tests in order.
 use borrow.Author.Needs.{needs}
 use mathlib.Core.Path.{sym, _∙_}
 use Rattle.probs.specs.Pair.{relativeEq}

@@ -1,6 +1,6 @@
--- `probs::sum::close_sum` meets its contract, which is that of `close`. Assumes nothing.
+-- `probs::sum::close_sum` meets its contract, which is that of `close`.
 use borrow.Author.Needs.{needs}
-use Rattle.probs.specs.Sum.{closedSum}
+use Rattle.probs.specs.inner.Open.{closedSum}
 use Rattle.probs.proofs.sum.close_sum.Statement.{statement}
 use Rattle.probs.proofs.sum.close_sum.Tie as tie
 

@@ -1,11 +1,11 @@
--- `probs::sum::greatest` meets its contract. The loop's invariant, `Pass1`: best is the first greatest of the k entries that it has met. Assumes nothing.
+-- `probs::sum::greatest` meets its contract. The loop's invariant, `Pass1`: best is the first greatest of the k entries that it has met.
 use borrow.Author.Needs.{needs}
 use Prim.Native.Nat.{_-_}
 use denote.Ref.{now}
 use lib.ListN.{length}
 use lib.Ieee.{nan}
-use Rattle.order.specs.Float.{at, minusInfinity}
-use Rattle.rows.proofs.Over.{getD-any}
+use Rattle.floats.specs.Float.{at, minusInfinity}
+use Rattle.lists.proofs.Over.{getD-any}
 use Rattle.probs.proofs.Loops.{Pass1, pass1-none, pass1-more, pass1-done}
 use Rattle.probs.proofs.sum.greatest.Statement.{statement}
 use Rattle.probs.proofs.sum.greatest.Tie as tie
@@ -39,9 +39,10 @@ loop-less c = search needs
 
 loop-again : tie.Need-loop-again Inv-loop μ-loop
 loop-again c =
-    let xs = now (c .before .before .before .before .before .before .args .xs) in
+    let turn = c .before .before .before in
+    let xs = now (turn .before .before .before .args .xs) in
     let inside = c .before .before .loop-test .taken in
-    pass1-more _ _ _ _ _ _ (c .before .before .before .loop .inv) inside (getD-any xs _ nan minusInfinity inside) (c .raise .ensures)
+    pass1-more _ _ _ _ _ _ (turn .loop .inv) inside (getD-any xs _ nan minusInfinity inside) (c .raise .ensures)
 
 returns : tie.Need-returns Inv-loop μ-loop
 returns c = pass1-done _ _ _ _ (c .before .loop .inv) (c .loop-test .left)

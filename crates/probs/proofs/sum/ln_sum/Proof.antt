@@ -1,4 +1,4 @@
--- `probs::sum::ln_sum` meets its contract: its two passes and their end make the sum. Assumes nothing.
+-- `probs::sum::ln_sum` meets its contract: its two passes and their end make the sum.
 use borrow.Author.Needs.{needs}
 use Rattle.probs.proofs.Loops.{sum-done}
 use Rattle.probs.proofs.sum.ln_sum.Statement.{statement}

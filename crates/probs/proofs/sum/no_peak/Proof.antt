@@ -1,4 +1,4 @@
--- `probs::sum::no_peak` meets its contract: the value is what `minus_infinity` gives. Assumes nothing.
+-- `probs::sum::no_peak` meets its contract: the value is what `minus_infinity` gives.
 use borrow.Author.Needs.{needs}
 use Rattle.probs.proofs.sum.no_peak.Statement.{statement}
 use Rattle.probs.proofs.sum.no_peak.Tie as tie

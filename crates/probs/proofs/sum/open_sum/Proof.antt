@@ -1,4 +1,4 @@
--- `probs::sum::open_sum` meets its contract: its two passes. Assumes nothing.
+-- `probs::sum::open_sum` meets its contract: its two passes.
 use borrow.Author.Needs.{needs}
 use Rattle.probs.proofs.Loops.{opened-done}
 use Rattle.probs.proofs.sum.open_sum.Statement.{statement}

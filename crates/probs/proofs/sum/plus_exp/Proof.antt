@@ -1,4 +1,4 @@
--- `probs::sum::plus_exp` meets its contract, by its two tests. Assumes nothing.
+-- `probs::sum::plus_exp` meets its contract, by its two tests.
 use borrow.Author.Needs.{needs}
 use borrow.Author.Tests.{eq-eqb, ne-eqb}
 use mathlib.Core.Path.{sym, _∙_}

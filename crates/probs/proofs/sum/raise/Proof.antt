@@ -1,4 +1,4 @@
--- `probs::sum::raise` meets its contract, by its one test. Assumes nothing.
+-- `probs::sum::raise` meets its contract, by its one test.
 use Rattle.probs.specs.Sum.{raised}
 use Rattle.probs.proofs.sum.raise.Statement.{statement}
 use Rattle.probs.proofs.sum.raise.Tie as tie

@@ -1,11 +1,11 @@
--- `probs::sum::sum_others` meets its contract. The loop's invariant, `Pass2`: s is the sum over the k entries that it has met. Assumes nothing.
+-- `probs::sum::sum_others` meets its contract. The loop's invariant, `Pass2`: s is the sum over the k entries that it has met.
 use borrow.Author.Needs.{needs}
 use Prim.Native.Nat.{_-_}
 use denote.Ref.{now}
 use lib.ListN.{length}
 use lib.Ieee.{nan, ofBits}
-use Rattle.order.specs.Float.{at, minusInfinity}
-use Rattle.rows.proofs.Over.{getD-any}
+use Rattle.floats.specs.Float.{at, minusInfinity}
+use Rattle.lists.proofs.Over.{getD-any}
 use Rattle.probs.proofs.Loops.{Pass2, pass2-none, pass2-more, pass2-done}
 use Rattle.probs.proofs.sum.sum_others.Statement.{statement}
 use Rattle.probs.proofs.sum.sum_others.Tie as tie

@@ -1,4 +1,4 @@
--- `program_io::lines::bits` is safe: the bits are asked of a number alone. Assumes nothing.
+-- `program_io::lines::bits` is safe: the bits are asked of a number alone.
 use mathlib.Core.Path.{sym, _∙_, subst}
 use lib.Dec.{T}
 use borrow.Author.Needs.{needs}

@@ -1,4 +1,4 @@
--- `program_io::words::read_words` meets its contract: n is at most the length, which it nears, and the length stays. Assumes nothing.
+-- `program_io::words::read_words` meets its contract: n is at most the length, which it nears, and the length stays.
 use mathlib.Core.Path.{_≡_}
 use Prim.Native.Nat.{_≤_, _-_}
 use lib.ListN.{length, length-set}

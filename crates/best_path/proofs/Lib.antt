@@ -1,0 +1,15 @@
+pub mod Best
+pub mod States
+pub mod Ranks
+pub mod Paths
+pub mod Ending
+pub mod Bounds
+pub mod Below
+pub mod Optimum
+pub mod Still
+pub mod BestPath
+pub mod Turn
+pub mod Held
+pub mod WayBack
+pub mod Steps
+pub mod Found

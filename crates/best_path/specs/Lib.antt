@@ -1,0 +1,4 @@
+pub mod Best
+pub mod Walk
+pub mod Score
+pub mod inner

@@ -1,0 +1,13 @@
+pub mod Tests
+pub mod Finite
+pub mod Keys
+pub mod Order
+pub mod Round
+pub mod Add
+pub mod Sub
+pub mod Sign
+pub mod Unit
+pub mod Fraction
+pub mod PlusZero
+pub mod Largest
+pub mod Ceiling

@@ -1,0 +1,2 @@
+-- What only laws ask for.
+pub mod Sign

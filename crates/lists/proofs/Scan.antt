@@ -1,0 +1,81 @@
+-- The first place that fails a test: what a loop that looks for it knows at place i, and what it has found when it stops.
+use Prim.Native.Nat.{ℕ, zero, suc, _+_, _≤_, _<_, suc-le-suc}
+use mathlib.Core.Path.{_≡_, refl, sym, _∙_}
+use mathlib.Core.Bool.{Bool, true, false, true≢false, cond}
+use mathlib.Core.List.{List, [], _∷_}
+use native.Mathlib.Numerals.{add-one}
+use native.Mathlib.Nat.{zero-add, not-suc-le-zero, le-of-suc-le-suc}
+use native.Mathlib.Omega.{arith}
+use lib.ListN.{length, getD, drop, drop-of-length-le}
+use lib.Seq.{drop-cons}
+use Rattle.lists.specs.Lists.{firstBad}
+use Rattle.lists.proofs.Places.{at-most}
+
+module _ {A : Type 0} (p : A → Bool) (xs : List A) where
+  -- every element below i passes the test
+  pub record Passed (i : ℕ) : Type 0 where
+    pub within : i ≤ length xs
+    pub rest : firstBad p xs ≡ i + firstBad p (drop i xs)
+
+  pub passed-none : Passed 0
+  passed-none = record { within = omega arith; rest = sym (zero-add _) }
+
+  step : (i : ℕ) (d : A) → i < length xs → firstBad p (drop i xs) ≡ cond (p (getD xs i d)) (suc (firstBad p (drop (i + 1) xs))) 0
+  unfolding firstBad
+  step i d h = rw (add-one, drop-cons xs i d)
+
+  pub passed-more : (i : ℕ) (d : A) → Passed i → i < length xs → p (getD xs i d) ≡ true → Passed (i + 1)
+  passed-more i d inv h t =
+      let s : firstBad p (drop i xs) ≡ suc (firstBad p (drop (i + 1) xs)) = rw t at (step i d h) in
+      record { within = omega arith; rest = omega arith }
+
+  pub passed-stop : (i : ℕ) (d : A) → Passed i → i < length xs → p (getD xs i d) ≡ false → i ≡ firstBad p xs
+  passed-stop i d inv h t =
+      let s : firstBad p (drop i xs) ≡ 0 = rw t at (step i d h) in
+      omega arith
+
+  pub passed-all : (i : ℕ) → Passed i → length xs ≤ i → i ≡ firstBad p xs
+  unfolding firstBad
+  passed-all i inv h =
+      let s : firstBad p (drop i xs) ≡ 0 = rw (drop-of-length-le xs h) in
+      omega arith
+
+-- ---- what the first place that fails is; d is what is read past the end
+module _ {A : Type 0} (good : A → Bool) (d : A) where
+  -- v is the first place of xs whose element fails the test, or the length
+  record Scanned (xs : List A) (v : ℕ) : Type 0 where
+    within : v ≤ length xs
+    before : (i : ℕ) → i < v → good (getD xs i d) ≡ true
+    there : v < length xs → good (getD xs v d) ≡ false
+
+  none-before : (i : ℕ) → i < 0 → ⊥
+  none-before i l = omega arith
+
+  turn : (x : A) (xs : List A) (v : ℕ) (b : Bool) → good x ≡ b → Scanned xs v → Scanned (x ∷ xs) (cond b (suc v) 0)
+  turn x xs v true e h = record { within = suc-le-suc (h .within); before = passed; there = λ l. h .there (le-of-suc-le-suc l) }
+    where
+      passed : (i : ℕ) → i < suc v → good (getD (x ∷ xs) i d) ≡ true
+      passed zero l = e
+      passed (suc i) l = h .before i (le-of-suc-le-suc l)
+  turn x xs v false e h = record { within = omega arith; before = λ i l. absurd (none-before i l); there = λ l. e }
+
+  scanned : (xs : List A) → Scanned xs (firstBad good xs)
+  unfolding firstBad
+  scanned [] = record { within = omega arith; before = λ i l. absurd (none-before i l); there = λ l. absurd (not-suc-le-zero l) }
+  scanned (x ∷ xs) = turn x xs (firstBad good xs) (good x) refl (scanned xs)
+
+  -- where it is not below the length, every element passes
+  pub all-pass : (xs : List A) → length xs ≤ firstBad good xs → (i : ℕ) → i < length xs → good (getD xs i d) ≡ true
+  all-pass xs h i l = scanned xs .before i (omega arith)
+
+  -- and where every element passes, it is not
+  pub pass-all : (xs : List A) → ((i : ℕ) → i < length xs → good (getD xs i d) ≡ true) → length xs ≤ firstBad good xs
+  pass-all xs h =
+      at-most _ _ (λ (g : firstBad good xs < length xs). true≢false (sym (h (firstBad good xs) g) ∙ scanned xs .there g))
+
+  -- the element there fails, and no earlier one does
+  pub bad-there : (xs : List A) → firstBad good xs < length xs → good (getD xs (firstBad good xs) d) ≡ false
+  bad-there xs h = scanned xs .there h
+
+  pub bad-first : (xs : List A) (q : ℕ) → q < length xs → good (getD xs q d) ≡ false → firstBad good xs ≤ q
+  bad-first xs q h k = at-most _ q (λ (g : q < firstBad good xs). true≢false (sym (scanned xs .before q g) ∙ k))

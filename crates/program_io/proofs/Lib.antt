@@ -1,0 +1,3 @@
+pub mod Other
+pub mod Spans
+pub mod Whole

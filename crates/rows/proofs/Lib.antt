@@ -1,5 +1,0 @@
-pub mod Scan
-pub mod Places
-pub mod Over
-pub mod Laid
-pub mod Rows

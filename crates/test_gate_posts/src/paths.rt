@@ -1,0 +1,118 @@
+// The examples of `viterbi`: P1 to P6, Z1 and Z3.
+use crate::print::answer;
+use crate::print::states;
+use answer::Answer;
+use answer::is_done;
+use floats::minus_infinity;
+use model::Shape;
+use program_io::lines::text;
+use viterbi::viterbi;
+
+// The path's n states where the call is done, and the end of the line.
+fn path_of(a: Answer, path: &[u8; 3], n: usize) {
+    if is_done(a) {
+        states(path, n);
+    }
+    text(b"\n");
+}
+
+// A model of S states and two symbols without an end state, decoded: the answer, and the path where the call is done.
+fn decode(
+    label: &[u8],
+    count: usize,
+    transition: &[f64],
+    emission: &[f64],
+    initial: &[f64],
+    end: &[f64],
+    samples: &[u16],
+) {
+    let shape = Shape {
+        states: count,
+        symbols: 2,
+        ends: false,
+    };
+    let mut path = [0u8; 3];
+    let mut values = [0.0; 9];
+    let mut from = [0u8; 9];
+    let a = viterbi(
+        shape,
+        transition,
+        emission,
+        initial,
+        end,
+        samples,
+        &mut path[..],
+        &mut values[..],
+        &mut from[..],
+    );
+    answer(label, a);
+    path_of(a, &path, samples.len());
+}
+
+// Model P with a transition and an emission to replace its own.
+fn decode_p(label: &[u8], transition: f64, emission: f64, samples: &[u16]) {
+    let transitions = [transition, -2.0, -2.0, -1.0];
+    let emissions = [-1.0, -3.0, -3.0, emission];
+    let initial = [-1.0, -2.0];
+    let end = [0.0, 0.0];
+    decode(
+        label,
+        2,
+        &transitions[..],
+        &emissions[..],
+        &initial[..],
+        &end[..],
+        samples,
+    );
+}
+
+// P1 to P6. 5e-324 is 2^-1074.
+pub fn model_p() {
+    let three: [u16; 3] = [0, 1, 1];
+    let unknown: [u16; 3] = [0, 1, 2];
+    let one: [u16; 1] = [1];
+    let none: [u16; 0] = [];
+    decode_p(b"P1", -1.0, -1.0, &three[..]);
+    decode_p(b"P2", -1.0, -1.0, &one[..]);
+    decode_p(b"P3", -1.0, -1.0, &none[..]);
+    decode_p(b"P4", -1.0, -1.0, &unknown[..]);
+    decode_p(b"P5", 0.0 / 0.0, -1.0, &three[..]);
+    decode_p(b"P6", -1.0, 5e-324, &three[..]);
+    decode_p(b"P6 with -0.0", -1.0, -0.0, &three[..]);
+}
+
+// Z1, all zero.
+pub fn model_z() {
+    let transition = [0.0; 4];
+    let emission = [0.0; 4];
+    let initial = [0.0; 2];
+    let end = [0.0; 2];
+    let samples: [u16; 2] = [0, 0];
+    decode(
+        b"Z1",
+        2,
+        &transition[..],
+        &emission[..],
+        &initial[..],
+        &end[..],
+        &samples[..],
+    );
+}
+
+// Z3: three states, none of which can be first.
+pub fn no_beginning() {
+    let transition = [0.0; 9];
+    let emission = [0.0; 6];
+    let initial = [minus_infinity(), minus_infinity(), minus_infinity()];
+    let end = [0.0; 3];
+    let samples: [u16; 2] = [0, 0];
+    decode(
+        b"Z3",
+        3,
+        &transition[..],
+        &emission[..],
+        &initial[..],
+        &end[..],
+        &samples[..],
+    );
+}

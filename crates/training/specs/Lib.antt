@@ -1,5 +1,0 @@
-pub mod First
-pub mod Pass
-pub mod Rows
-pub mod Call
-pub mod Remade
