@@ -1,9 +1,45 @@
-/* Every export of the archive, with good and bad arguments: the number of calls whose answer is not the expected one.
- * No libc is needed here, so that the same file is linked with and without one. */
+/* Every export of the archive, plainly and with structs, with good and bad arguments. Each argument and each field of an answer is told
+ * from every other: c/faces.c exchanges any two of them and counts on this file to see it. No libc is needed here, so that the same file
+ * is linked with and without one. */
 #include "wasnugram.h"
 #include "calls.h"
 
-static const double MINUS_INFINITY = -__builtin_inf();
+#define MINUS_INFINITY (-__builtin_inf())
+#define NOT_A_NUMBER __builtin_nan("")
+#define LN_2 0.6931471805599453
+
+/* What the exports in Rattle count on. */
+_Static_assert(sizeof(wasnugram_shape) == 24 && offsetof(wasnugram_shape, symbols) == 8 && offsetof(wasnugram_shape, ends) == 16, "shape");
+_Static_assert(sizeof(wasnugram_answer) == 24 && offsetof(wasnugram_answer, table) == 1 && offsetof(wasnugram_answer, place) == 8 &&
+                   offsetof(wasnugram_answer, value) == 16, "answer");
+
+/* The sizes that the header gives, at a gate of 12 states, 256 symbols and 240 samples. */
+#define IS(size, entries) _Static_assert((size) == (entries), #size)
+IS(WASNUGRAM_MODEL_TRANSITION(10 + 2), 144);
+IS(WASNUGRAM_MODEL_EMISSION(10 + 2, 255 + 1), 3072);
+IS(WASNUGRAM_MODEL_INITIAL(12), 12);
+IS(WASNUGRAM_MODEL_END(12), 12);
+IS(WASNUGRAM_VITERBI_PATH(240), 240);
+IS(WASNUGRAM_VITERBI_VALUES(10 + 2, 239 + 1), 2880);
+IS(WASNUGRAM_VITERBI_FROM(10 + 2, 239 + 1), 2880);
+IS(WASNUGRAM_FORWARD_VALUES(10 + 2, 239 + 1), 2880);
+IS(WASNUGRAM_BACKWARD_VALUES(10 + 2, 239 + 1), 2880);
+IS(WASNUGRAM_BAUM_WELCH_NEW_TRANSITION(10 + 2), 144);
+IS(WASNUGRAM_BAUM_WELCH_NEW_EMISSION(10 + 2, 255 + 1), 3072);
+IS(WASNUGRAM_BAUM_WELCH_NEW_INITIAL(12), 12);
+IS(WASNUGRAM_BAUM_WELCH_NEW_END(12), 12);
+IS(WASNUGRAM_BAUM_WELCH_ALPHA(10 + 2, 239 + 1), 2880);
+IS(WASNUGRAM_BAUM_WELCH_BETA(10 + 2, 239 + 1), 2880);
+IS(WASNUGRAM_LN_CUMSUM_EXP_SUMS(5), 5);
+
+int calls_first_wrong_line;
+static int wrong;
+
+static void expect(int so, int line) {
+    if (!so && wrong++ == 0) calls_first_wrong_line = line;
+}
+
+#define EXPECT(so) expect((so), __LINE__)
 
 static uint64_t bits(double x) {
     union { double x; uint64_t b; } u = { x };
@@ -14,155 +50,365 @@ static int is(wasnugram_answer a, uint8_t refusal, uint8_t table, size_t place, 
     return a.refusal == refusal && a.table == table && a.place == place && bits(a.value) == bits(value);
 }
 
-/* Document 01's model P, its samples P1, and outputs with three places to spare. */
-static const double TRANSITION[4] = { -1, -2, -2, -1 };
-static const double EMISSION[4] = { -1, -3, -3, -1 };
-static const double INITIAL[2] = { -1, -2 };
-static const double END[2] = { 0, 0 };
-static const uint16_t SAMPLES[3] = { 0, 1, 1 };
-static uint8_t path[6], from[9];
-static double values[9];
-
-static void fill(void) {
-    for (size_t i = 0; i < 6; i++) path[i] = 77;
-    for (size_t i = 0; i < 9; i++) from[i] = 77, values[i] = 77;
+static int is_done(wasnugram_answer a, double value) {
+    return is(a, WASNUGRAM_DONE, 0, 0, value);
 }
 
-static wasnugram_answer decode(size_t states, const double *emission, const double *end, const uint16_t *samples, size_t n, size_t room) {
-    wasnugram_shape shape = { states, 2, 0 };
-    fill();
-    return wasnugram_viterbi(shape, TRANSITION, 4, emission, 4, INITIAL, 2, end, 2, samples, n, path, room, values, 9, from, 9);
+static int is_refused(wasnugram_answer a, uint8_t refusal, uint8_t table, size_t place) {
+    return is(a, refusal, table, place, MINUS_INFINITY) && !wasnugram_is_possible(a);
+}
+
+/* All memory that is lent to the calls on a model, without padding, so that it can be compared byte by byte. */
+enum { S = 2, M = 3, T = 2, MOST = 16 };
+
+struct numbers {
+    double entries[MOST];
+    size_t length;
+};
+
+struct bytes {
+    uint8_t entries[MOST];
+    size_t length;
+};
+
+struct lent {
+    struct numbers tables[4];
+    uint16_t samples[4];
+    size_t samples_length;
+    struct bytes path, from;
+    struct numbers outputs[6]; /* the first is `values` where a call has that; a training pass takes all */
+};
+
+static wasnugram_shape shape;
+static struct lent lent, before;
+
+static void copy(double *to, const double *entries, size_t n) {
+    for (size_t i = 0; i < n; i++) to[i] = entries[i];
+}
+
+/* A chain: one way through two states, of weights that are powers of two, so that a sum tells what it is made of. Outputs are longer
+ * than needed, and every byte of them is 0xa5. */
+static void lend(void) {
+    static const double transition[] = { MINUS_INFINITY, -2, MINUS_INFINITY, MINUS_INFINITY };
+    static const double emission[] = { -4, -64, MINUS_INFINITY, MINUS_INFINITY, -128, -8 };
+    static const double initial[] = { -1, MINUS_INFINITY }, end[] = { MINUS_INFINITY, -16 };
+    static const size_t needed[] = { S * S, S * M, S, S, S * T, S * T };
+    for (size_t i = 0; i < sizeof lent; i++) ((unsigned char *)&lent)[i] = 0xa5;
+    shape = (wasnugram_shape){ S, M, 255 };
+    copy(lent.tables[0].entries, transition, S * S);
+    copy(lent.tables[1].entries, emission, S * M);
+    copy(lent.tables[2].entries, initial, S);
+    copy(lent.tables[3].entries, end, S);
+    for (size_t i = 0; i < 4; i++) lent.tables[i].length = needed[i];
+    lent.samples[0] = 0, lent.samples[1] = 2, lent.samples_length = T;
+    lent.path.length = T + 1, lent.from.length = S * T + 2;
+    for (size_t i = 0; i < 6; i++) lent.outputs[i].length = needed[i] + 3;
 }
 
 static int untouched(void) {
-    for (size_t i = 0; i < 6; i++) if (path[i] != 77) return 0;
-    for (size_t i = 0; i < 9; i++) if (from[i] != 77 || values[i] != 77) return 0;
+    for (size_t i = 0; i < sizeof lent; i++) {
+        if (((unsigned char *)&lent)[i] != ((unsigned char *)&before)[i]) return 0;
+    }
     return 1;
 }
 
-static int viterbi(void) {
-    static const uint16_t outside[3] = { 0, 1, 2 };
-    static const double above[4] = { -1, -3, -3, 0x1p-1074 };
-    static const double minus_zero[2] = { 0, -0.0 };
-    double nan[4] = { __builtin_nan(""), -3, -3, -1 };
-    int wrong = 0;
-    wrong += !is(decode(2, EMISSION, END, SAMPLES, 3, 6), 0, 0, 0, -7);
-    wrong += !(path[0] == 0 && path[1] == 1 && path[2] == 1 && path[3] == 77 && values[6] == 77 && from[6] == 77);
-    wrong += !is(decode(2, EMISSION, END, 0, 0, 6), 0, 0, 0, MINUS_INFINITY) || !untouched();
-    wrong += !is(decode(0, EMISSION, END, SAMPLES, 3, 6), 1, 0, 0, MINUS_INFINITY) || !untouched();
-    wrong += !is(decode(65, EMISSION, END, SAMPLES, 3, 6), 1, 0, 65, MINUS_INFINITY) || !untouched();
-    wrong += !is(decode(3, EMISSION, END, SAMPLES, 3, 6), 5, 0, 4, MINUS_INFINITY) || !untouched();
-    wrong += !is(decode(2, EMISSION, END, SAMPLES, 3, 2), 6, 5, 2, MINUS_INFINITY) || !untouched();
-    wrong += !is(decode(2, above, END, SAMPLES, 3, 6), 7, 1, 3, MINUS_INFINITY) || !untouched();
-    wrong += !is(decode(2, nan, END, SAMPLES, 3, 6), 7, 1, 0, MINUS_INFINITY) || !untouched();
-    wrong += !is(decode(2, EMISSION, minus_zero, SAMPLES, 3, 6), 7, 3, 1, MINUS_INFINITY) || !untouched();
-    wrong += !is(decode(2, EMISSION, END, outside, 3, 6), 8, 4, 2, MINUS_INFINITY) || !untouched();
-    return wrong;
+#define LENT(buffer) (buffer).entries, (buffer).length
+#define TABLES LENT(lent.tables[0]), LENT(lent.tables[1]), LENT(lent.tables[2]), LENT(lent.tables[3])
+#define MODEL shape, TABLES, lent.samples, lent.samples_length
+
+static wasnugram_answer viterbi(void) {
+    return wasnugram_viterbi(MODEL, LENT(lent.path), LENT(lent.outputs[0]), LENT(lent.from));
 }
 
-/* Null with length 0: as tables they are too short (5), as outputs that need nothing they are fine, and else too short (6). */
-static int nothing_lent(void) {
-    wasnugram_shape shape = { 2, 2, 0 };
-    wasnugram_answer a;
-    int wrong = 0;
-    a = wasnugram_viterbi(shape, 0, 0, 0, 0, 0, 0, 0, 0, 0, 0, 0, 0, 0, 0, 0, 0);
-    wrong += !is(a, 5, 0, 0, MINUS_INFINITY);
-    a = wasnugram_viterbi(shape, TRANSITION, 4, EMISSION, 4, INITIAL, 2, END, 2, 0, 0, 0, 0, 0, 0, 0, 0);
-    wrong += !is(a, 0, 0, 0, MINUS_INFINITY);
-    a = wasnugram_viterbi(shape, TRANSITION, 4, EMISSION, 4, INITIAL, 2, END, 2, SAMPLES, 3, path, 6, 0, 0, from, 9);
-    wrong += !is(a, 6, 6, 0, MINUS_INFINITY);
-    a = wasnugram_baum_welch(shape, TRANSITION, 4, EMISSION, 4, INITIAL, 2, END, 2, SAMPLES, 3, 0, 0, 0, 0, 0, 0, 0, 0, 0, 0, 0, 0);
-    wrong += !is(a, 6, 5, 0, MINUS_INFINITY);
-    wrong += !is(wasnugram_ln_cumsum_exp(0, 0, 0, 0), 0, 0, 0, MINUS_INFINITY);
-    return wrong;
+static wasnugram_answer forward(void) {
+    return wasnugram_forward(MODEL, LENT(lent.outputs[0]));
 }
 
-/* No symbols, and a sample too many. */
-static int sizes(void) {
-    static const uint16_t many[4097];
-    wasnugram_shape none = { 2, 0, 0 };
-    int wrong = 0;
-    fill();
-    wrong += !is(wasnugram_viterbi(none, TRANSITION, 4, 0, 0, INITIAL, 2, END, 2, SAMPLES, 3, path, 6, values, 9, from, 9), 2, 0, 0, MINUS_INFINITY);
-    wrong += !untouched();
-    wrong += !is(decode(2, EMISSION, END, many, 4097, 6), 3, 4, 4097, MINUS_INFINITY) || !untouched();
-    return wrong;
+static wasnugram_answer backward(void) {
+    return wasnugram_backward(MODEL, LENT(lent.outputs[0]));
 }
 
-/* Model Z: all zero. One sample makes ln 2 of both walks; no samples are refused by one and answered by the other. */
-static int walks(void) {
-    static const double zeros[4] = { 0, 0, 0, 0 };
-    wasnugram_shape shape = { 2, 2, 0 };
-    wasnugram_answer a;
-    int wrong = 0;
-    fill();
-    a = wasnugram_forward(shape, zeros, 4, zeros, 4, zeros, 2, zeros, 2, SAMPLES, 1, values, 9);
-    wrong += !is(a, 0, 0, 0, 0.6931471805599453) || values[0] != 0 || values[1] != 0 || values[2] != 77;
-    fill();
-    a = wasnugram_backward(shape, zeros, 4, zeros, 4, zeros, 2, zeros, 2, SAMPLES, 1, values, 9);
-    wrong += !is(a, 0, 0, 0, 0.6931471805599453) || values[0] != 0 || values[1] != 0 || values[2] != 77;
-    fill();
-    a = wasnugram_forward(shape, zeros, 4, zeros, 4, zeros, 2, zeros, 2, 0, 0, values, 9);
-    wrong += !is(a, 4, 4, 0, MINUS_INFINITY) || !untouched();
-    a = wasnugram_backward(shape, zeros, 4, zeros, 4, zeros, 2, zeros, 2, 0, 0, values, 9);
-    wrong += !is(a, 0, 0, 0, MINUS_INFINITY) || !untouched();
-    a = wasnugram_forward(shape, zeros, 4, zeros, 4, zeros, 2, zeros, 2, SAMPLES, 1, values, 1);
-    wrong += !is(a, 6, 5, 1, MINUS_INFINITY) || !untouched();
-    return wrong;
+static wasnugram_answer baum_welch(void) {
+    return wasnugram_baum_welch(MODEL, LENT(lent.outputs[0]), LENT(lent.outputs[1]), LENT(lent.outputs[2]), LENT(lent.outputs[3]),
+                                LENT(lent.outputs[4]), LENT(lent.outputs[5]));
 }
 
-/* A pass: refused with 9 on model Z, where the scratch is all +0.0 then; and one that is done, of a single state with a way out. */
-static int training(void) {
-    static const double zeros[4] = { 0, 0, 0, 0 };
-    static const uint16_t one[1] = { 1 };
-    wasnugram_shape z = { 2, 2, 0 }, single = { 1, 2, 1 };
-    double to[4], emitted[4], first[2], last[2], alpha[3] = { 77, 77, 77 }, beta[3] = { 77, 77, 77 };
-    wasnugram_answer a;
-    int wrong = 0;
-    for (size_t i = 0; i < 4; i++) to[i] = emitted[i] = 77;
-    a = wasnugram_baum_welch(z, zeros, 4, zeros, 4, zeros, 2, zeros, 2, SAMPLES, 1, to, 4, emitted, 4, first, 2, last, 2, alpha, 3, beta, 3);
-    wrong += !is(a, 9, 0, 0, MINUS_INFINITY) || to[0] != 77 || emitted[0] != 77;
-    wrong += !(bits(alpha[0]) == 0 && bits(alpha[1]) == 0 && alpha[2] == 77 && bits(beta[1]) == 0 && beta[2] == 77);
-    a = wasnugram_baum_welch(single, zeros, 1, zeros, 2, zeros, 1, zeros, 1, one, 1, to, 4, emitted, 4, first, 2, last, 2, alpha, 3, beta, 3);
-    wrong += !is(a, 0, 0, 0, 0) || to[0] != MINUS_INFINITY || to[1] != 77;
-    wrong += !(emitted[0] == MINUS_INFINITY && emitted[1] == 0 && emitted[2] == 77 && first[0] == 0 && last[0] == 0);
-    return wrong;
+/* The same with structs; the room is in samples. */
+static wasnugram_model model(void) {
+    return (wasnugram_model){ shape, lent.tables[0].entries, lent.tables[1].entries, lent.tables[2].entries, lent.tables[3].entries };
 }
 
-static int kernels(void) {
-    int wrong = 0;
-    wrong += !is(wasnugram_exp(0), 0, 0, 0, 1);
-    wrong += !is(wasnugram_exp(MINUS_INFINITY), 0, 0, 0, 0);
-    wrong += !is(wasnugram_exp(1), 7, 0, 0, MINUS_INFINITY);
-    wrong += !is(wasnugram_ln(1), 0, 0, 0, 0);
-    wrong += !is(wasnugram_ln(2), 0, 0, 0, 0.6931471805599453);
-    wrong += !is(wasnugram_ln(0.5), 0, 0, 0, -0.6931471805599453);
-    wrong += !is(wasnugram_ln(-1), 7, 0, 0, MINUS_INFINITY);
-    wrong += !is(wasnugram_ln_one_minus_exp(MINUS_INFINITY), 0, 0, 0, 0);
-    wrong += !is(wasnugram_ln_one_minus_exp(__builtin_nan("")), 7, 0, 0, MINUS_INFINITY);
-    return wrong;
+static wasnugram_answer viterbi_of(size_t room) {
+    wasnugram_model m = model();
+    wasnugram_viterbi_outputs outputs = { room, lent.path.entries, lent.outputs[0].entries, lent.from.entries };
+    return wasnugram_viterbi_of(&m, lent.samples, lent.samples_length, &outputs);
 }
 
-static int leaves(void) {
-    static const double zeros[3] = { 0, 0, 0 };
-    const double spoiled[3] = { -1, __builtin_nan(""), -1 };
-    double sums[4] = { 77, 77, 77, 77 };
-    int wrong = 0;
-    wrong += !is(wasnugram_ln_sum_exp(zeros, 2), 0, 0, 0, 0.6931471805599453);
-    wrong += !is(wasnugram_ln_sum_exp(0, 0), 0, 0, 0, MINUS_INFINITY);
-    wrong += !is(wasnugram_ln_sum_exp(spoiled, 3), 7, 0, 1, MINUS_INFINITY);
-    wrong += !is(wasnugram_ln_add_exp(0, 0), 0, 0, 0, 0.6931471805599453);
-    wrong += !is(wasnugram_ln_add_exp(0, __builtin_nan("")), 7, 0, 1, MINUS_INFINITY);
-    wrong += !is(wasnugram_ln_sub_exp(-1, -1), 0, 0, 0, MINUS_INFINITY);
-    wrong += !is(wasnugram_ln_sub_exp(-2, -1), 10, 0, 0, MINUS_INFINITY);
-    wrong += !is(wasnugram_ln_cumsum_exp(zeros, 3, sums, 2), 6, 5, 2, MINUS_INFINITY) || sums[0] != 77;
-    wrong += !is(wasnugram_ln_cumsum_exp(zeros, 2, sums, 4), 0, 0, 0, 0.6931471805599453);
-    wrong += !(sums[0] == 0 && bits(sums[1]) == bits(0.6931471805599453) && sums[2] == 77 && sums[3] == 77);
-    wrong += !is(wasnugram_cap_numerical_overshoot(0x1p-52, 0x1p-52), 0, 0, 0, 0);
-    wrong += !is(wasnugram_cap_numerical_overshoot(1, 0.5), 11, 0, 0, MINUS_INFINITY);
-    return wrong;
+static wasnugram_answer forward_of(size_t room) {
+    wasnugram_model m = model();
+    wasnugram_likelihood_outputs outputs = { room, lent.outputs[0].entries };
+    return wasnugram_forward_of(&m, lent.samples, lent.samples_length, &outputs);
+}
+
+static wasnugram_answer backward_of(size_t room) {
+    wasnugram_model m = model();
+    wasnugram_likelihood_outputs outputs = { room, lent.outputs[0].entries };
+    return wasnugram_backward_of(&m, lent.samples, lent.samples_length, &outputs);
+}
+
+static wasnugram_answer baum_welch_of(size_t room) {
+    wasnugram_model m = model();
+    struct numbers *o = lent.outputs;
+    wasnugram_baum_welch_outputs outputs = { room, o[0].entries, o[1].entries, o[2].entries, o[3].entries, o[4].entries, o[5].entries };
+    return wasnugram_baum_welch_of(&m, lent.samples, lent.samples_length, &outputs);
+}
+
+/* A call on a model, and each of its outputs in order: where its length stands, and what is needed. */
+struct call {
+    wasnugram_answer (*plain)(void);
+    wasnugram_answer (*of)(size_t room);
+    double value;
+    size_t outputs;
+    struct {
+        size_t *length;
+        size_t needed;
+    } output[6];
+};
+
+static const struct call CALLS[] = {
+    { viterbi, viterbi_of, -15, 3, { { &lent.path.length, T }, { &lent.outputs[0].length, S * T }, { &lent.from.length, S * T } } },
+    { forward, forward_of, -31, 1, { { &lent.outputs[0].length, S * T } } },
+    { backward, backward_of, -31, 1, { { &lent.outputs[0].length, S * T } } },
+    { baum_welch, baum_welch_of, -31, 6,
+      { { &lent.outputs[0].length, S * S }, { &lent.outputs[1].length, S * M }, { &lent.outputs[2].length, S },
+        { &lent.outputs[3].length, S }, { &lent.outputs[4].length, S * T }, { &lent.outputs[5].length, S * T } } },
+};
+
+/* The call is refused so, and no lent byte has changed. */
+static void refused(const struct call *call, uint8_t refusal, uint8_t table, size_t place) {
+    before = lent;
+    EXPECT(is_refused(call->plain(), refusal, table, place));
+    EXPECT(untouched());
+}
+
+/* A wrong length, a NaN and a smallest number above zero, in each table. */
+static void tables_refused(const struct call *call) {
+    for (uint8_t i = 0; i < 4; i++) {
+        lend();
+        lent.tables[i].length -= 1;
+        refused(call, WASNUGRAM_WRONG_LENGTH, i, lent.tables[i].length);
+        lend();
+        lent.tables[i].entries[1] = NOT_A_NUMBER;
+        refused(call, WASNUGRAM_NOT_GOOD, i, 1);
+        lend();
+        lent.tables[i].entries[0] = 0x1p-1074;
+        refused(call, WASNUGRAM_NOT_GOOD, i, 0);
+    }
+}
+
+/* Each output is one place too short. */
+static void outputs_refused(const struct call *call) {
+    for (uint8_t i = 0; i < call->outputs; i++) {
+        lend();
+        *call->output[i].length = call->output[i].needed - 1;
+        refused(call, WASNUGRAM_OUTPUT_TOO_SHORT, 5 + i, call->output[i].needed - 1);
+    }
+}
+
+static void sizes_refused(const struct call *call) {
+    static const size_t bad_states[] = { 0, WASNUGRAM_MOST_STATES + 1 }, bad_symbols[] = { 0, WASNUGRAM_MOST_SYMBOLS + 1 };
+    for (size_t i = 0; i < 2; i++) {
+        lend();
+        shape.states = bad_states[i];
+        refused(call, WASNUGRAM_BAD_STATES, 0, bad_states[i]);
+        lend();
+        shape.symbols = bad_symbols[i];
+        refused(call, WASNUGRAM_BAD_SYMBOLS, 0, bad_symbols[i]);
+    }
+    lend();
+    lent.samples_length = WASNUGRAM_MOST_SAMPLES + 1;
+    refused(call, WASNUGRAM_TOO_MANY_SAMPLES, WASNUGRAM_SAMPLES, WASNUGRAM_MOST_SAMPLES + 1);
+    lend();
+    lent.samples[1] = M;
+    refused(call, WASNUGRAM_UNKNOWN_SYMBOL, WASNUGRAM_SAMPLES, 1);
+}
+
+/* Without an end state the end table is +0.0 alone. */
+static void end_refused(const struct call *call) {
+    lend();
+    shape.ends = 0;
+    refused(call, WASNUGRAM_NOT_GOOD, WASNUGRAM_END, 0);
+    lent.tables[3].entries[0] = 0, lent.tables[3].entries[1] = -0.0;
+    refused(call, WASNUGRAM_NOT_GOOD, WASNUGRAM_END, 1);
+}
+
+/* The form with structs writes the same into the same memory, and refuses where the room is too small. */
+static void same_with_structs(const struct call *call) {
+    lend();
+    EXPECT(is_done(call->plain(), call->value));
+    before = lent;
+    lend();
+    wasnugram_answer a = call->of(T + 1);
+    EXPECT(is_done(a, call->value) && wasnugram_is_possible(a) && untouched());
+    lend();
+    before = lent;
+    a = call->of(T - 1);
+    EXPECT(a.refusal == WASNUGRAM_OUTPUT_TOO_SHORT && untouched());
+}
+
+static void calls_on_a_model(void) {
+    for (size_t i = 0; i < sizeof CALLS / sizeof CALLS[0]; i++) {
+        tables_refused(&CALLS[i]);
+        outputs_refused(&CALLS[i]);
+        sizes_refused(&CALLS[i]);
+        end_refused(&CALLS[i]);
+        same_with_structs(&CALLS[i]);
+    }
+}
+
+/* The needed part of an output holds these numbers, and its surplus is as it was. */
+static int holds(const struct numbers *output, size_t needed, const double *expected) {
+    for (size_t i = 0; i < MOST; i++) {
+        if (bits(output->entries[i]) != (i < needed ? bits(expected[i]) : 0xa5a5a5a5a5a5a5a5)) return 0;
+    }
+    return 1;
+}
+
+static int holds_states(const struct bytes *output, size_t needed, const uint8_t *expected) {
+    for (size_t i = 0; i < MOST; i++) {
+        if (output->entries[i] != (i < needed ? expected[i] : 0xa5)) return 0;
+    }
+    return 1;
+}
+
+/* What the walks write of the chain. */
+static void walks(void) {
+    static const uint8_t path[] = { 0, 1 }, from[] = { 0, 1, 0, 0 };
+    static const double best[] = { -5, MINUS_INFINITY, MINUS_INFINITY, -15 };
+    static const double beta[] = { MINUS_INFINITY, -16, -26, MINUS_INFINITY };
+    lend();
+    EXPECT(is_done(viterbi(), -15));
+    EXPECT(holds_states(&lent.path, T, path) && holds(&lent.outputs[0], S * T, best) && holds_states(&lent.from, S * T, from));
+    lend();
+    EXPECT(is_done(forward(), -31) && holds(&lent.outputs[0], S * T, best));
+    lend();
+    EXPECT(is_done(backward(), -31) && holds(&lent.outputs[0], S * T, beta));
+}
+
+/* What a training pass writes of the chain: the way through is certain. */
+static void a_pass(void) {
+    static const double transition[] = { MINUS_INFINITY, 0, MINUS_INFINITY, MINUS_INFINITY };
+    static const double emission[] = { 0, MINUS_INFINITY, MINUS_INFINITY, MINUS_INFINITY, MINUS_INFINITY, 0 };
+    static const double initial[] = { 0, MINUS_INFINITY }, end[] = { MINUS_INFINITY, 0 }, cleared[S * T];
+    lend();
+    EXPECT(is_done(baum_welch(), -31));
+    EXPECT(holds(&lent.outputs[0], S * S, transition) && holds(&lent.outputs[1], S * M, emission));
+    EXPECT(holds(&lent.outputs[2], S, initial) && holds(&lent.outputs[3], S, end));
+    EXPECT(holds(&lent.outputs[4], S * T, cleared) && holds(&lent.outputs[5], S * T, cleared));
+}
+
+/* Zero mass: in the whole, where the way through is barred, and in state 1, where the passage ends before it. Scratch is cleared. */
+static void zero_mass(void) {
+    static const double cleared[S * T];
+    lend();
+    lent.tables[0].entries[1] = MINUS_INFINITY;
+    EXPECT(is_refused(baum_welch(), WASNUGRAM_ZERO_MASS, 0, S) && holds(&lent.outputs[0], 0, cleared));
+    EXPECT(holds(&lent.outputs[4], S * T, cleared) && holds(&lent.outputs[5], S * T, cleared));
+    lend();
+    lent.tables[3].entries[0] = -16, lent.samples_length = 1;
+    EXPECT(is_refused(baum_welch(), WASNUGRAM_ZERO_MASS, 0, 1) && holds(&lent.outputs[3], 0, cleared));
+    EXPECT(holds(&lent.outputs[4], S, cleared) && holds(&lent.outputs[5], S, cleared));
+}
+
+/* No samples, and null wherever a length is 0. */
+static void nothing_lent(void) {
+    lend();
+    lent.samples_length = 0;
+    refused(&CALLS[1], WASNUGRAM_NO_SAMPLES, WASNUGRAM_SAMPLES, 0);
+    refused(&CALLS[3], WASNUGRAM_NO_SAMPLES, WASNUGRAM_SAMPLES, 0);
+    EXPECT(is_done(viterbi(), MINUS_INFINITY) && is_done(backward(), MINUS_INFINITY) && untouched());
+    wasnugram_answer a = wasnugram_viterbi(shape, 0, 0, 0, 0, 0, 0, 0, 0, 0, 0, 0, 0, 0, 0, 0, 0);
+    EXPECT(is_refused(a, WASNUGRAM_WRONG_LENGTH, 0, 0));
+    a = wasnugram_baum_welch(shape, TABLES, lent.samples, 1, 0, 0, 0, 0, 0, 0, 0, 0, 0, 0, 0, 0);
+    EXPECT(is_refused(a, WASNUGRAM_OUTPUT_TOO_SHORT, 5, 0));
+    wasnugram_model m = model();
+    EXPECT(is_done(wasnugram_check_of(&m), MINUS_INFINITY));
+    lent.tables[1].entries[5] = 1;
+    EXPECT(is_refused(wasnugram_check_of(&m), WASNUGRAM_NOT_GOOD, WASNUGRAM_EMISSION, 5));
+}
+
+/* The gate-post examples P1, Z1 and Z3: a plain passage, a tie that the highest-numbered state wins, and a passage that no path explains,
+ * which is done. */
+static void gate_posts(void) {
+    static const double p[] = { -1, -2, -2, -1 }, emission[] = { -1, -3, -3, -1 }, zeros[9];
+    static const double never[] = { MINUS_INFINITY, MINUS_INFINITY, MINUS_INFINITY };
+    static const uint16_t passage[] = { 0, 1, 1 }, still[] = { 0, 0 };
+    uint8_t path[4], from[12];
+    double values[12];
+    wasnugram_viterbi_outputs outputs = { 4, path, values, from };
+    wasnugram_model models[] = { { { 2, 2, 0 }, p, emission, p, zeros }, { { 2, 2, 0 }, zeros, zeros, zeros, zeros },
+                                 { { 3, 2, 0 }, zeros, zeros, never, zeros } };
+    EXPECT(is_done(wasnugram_viterbi_of(&models[0], passage, 3, &outputs), -7) && path[0] == 0 && path[1] == 1 && path[2] == 1);
+    EXPECT(is_done(wasnugram_viterbi_of(&models[1], still, 2, &outputs), 0) && path[0] == 1 && path[1] == 1);
+    wasnugram_answer a = wasnugram_viterbi_of(&models[2], still, 2, &outputs);
+    EXPECT(is_done(a, MINUS_INFINITY) && path[0] == 2 && path[1] == 2 && !wasnugram_is_possible(a));
+}
+
+/* Possible is done and above minus infinity, and both are asked. */
+static void possible(void) {
+    EXPECT(wasnugram_is_possible((wasnugram_answer){ WASNUGRAM_DONE, 0, 0, -__DBL_MAX__ }));
+    EXPECT(!wasnugram_is_possible((wasnugram_answer){ WASNUGRAM_DONE, 0, 0, MINUS_INFINITY }));
+    EXPECT(!wasnugram_is_possible((wasnugram_answer){ WASNUGRAM_NOT_GOOD, 0, 0, -1 }));
+}
+
+static void kernels(void) {
+    EXPECT(is_done(wasnugram_exp(0), 1));
+    EXPECT(is_done(wasnugram_exp(MINUS_INFINITY), 0));
+    EXPECT(is_refused(wasnugram_exp(1), WASNUGRAM_NOT_GOOD, 0, 0));
+    EXPECT(is_done(wasnugram_ln(1), 0));
+    EXPECT(is_done(wasnugram_ln(2), LN_2));
+    EXPECT(is_done(wasnugram_ln(0.5), -LN_2));
+    EXPECT(is_refused(wasnugram_ln(-1), WASNUGRAM_NOT_GOOD, 0, 0));
+    EXPECT(is_done(wasnugram_ln_one_minus_exp(MINUS_INFINITY), 0));
+    EXPECT(is_done(wasnugram_ln_one_minus_exp(0), MINUS_INFINITY));
+    EXPECT(is_refused(wasnugram_ln_one_minus_exp(NOT_A_NUMBER), WASNUGRAM_NOT_GOOD, 0, 0));
+}
+
+static void leaves(void) {
+    static const double zeros[3];
+    EXPECT(is_done(wasnugram_ln_sum_exp(zeros, 2), LN_2));
+    EXPECT(is_done(wasnugram_ln_sum_exp(0, 0), MINUS_INFINITY));
+    EXPECT(is_refused(wasnugram_ln_sum_exp((double[]){ -1, NOT_A_NUMBER, -1 }, 3), WASNUGRAM_NOT_GOOD, 0, 1));
+    EXPECT(is_done(wasnugram_ln_add_exp(0, 0), LN_2));
+    EXPECT(is_refused(wasnugram_ln_add_exp(0, NOT_A_NUMBER), WASNUGRAM_NOT_GOOD, 0, 1));
+    EXPECT(is_done(wasnugram_ln_sub_exp(-1, MINUS_INFINITY), -1));
+    EXPECT(is_done(wasnugram_ln_sub_exp(-1, -1), MINUS_INFINITY));
+    EXPECT(is_refused(wasnugram_ln_sub_exp(-2, -1), WASNUGRAM_NEGATIVE_DIFFERENCE, 0, 0));
+    EXPECT(is_done(wasnugram_cap_numerical_overshoot(0x1p-52, 0x1p-51), 0));
+    EXPECT(is_done(wasnugram_cap_numerical_overshoot(-1, 0.5), -1));
+    EXPECT(is_refused(wasnugram_cap_numerical_overshoot(1, 0.5), WASNUGRAM_OVERSHOOT, 0, 0));
+}
+
+static void running_sums(void) {
+    static double probs[2], sums[WASNUGRAM_LN_CUMSUM_EXP_SUMS(2) + 2];
+    for (size_t i = 0; i < 4; i++) sums[i] = 77;
+    EXPECT(is_refused(wasnugram_ln_cumsum_exp(probs, 2, sums, 1), WASNUGRAM_OUTPUT_TOO_SHORT, 5, 1) && sums[0] == 77);
+    EXPECT(is_done(wasnugram_ln_cumsum_exp(probs, 2, sums, 4), LN_2));
+    EXPECT(bits(sums[0]) == 0 && bits(sums[1]) == bits(LN_2) && sums[2] == 77 && sums[3] == 77);
+    EXPECT(is_done(wasnugram_ln_cumsum_exp(0, 0, 0, 0), MINUS_INFINITY));
 }
 
 int calls_wrong(void) {
-    return viterbi() + nothing_lent() + sizes() + walks() + training() + kernels() + leaves();
+    wrong = 0;
+    calls_on_a_model();
+    walks();
+    a_pass();
+    zero_mass();
+    nothing_lent();
+    gate_posts();
+    possible();
+    kernels();
+    leaves();
+    running_sums();
+    return wrong;
 }

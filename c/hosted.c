@@ -4,6 +4,6 @@
 
 int main(void) {
     int wrong = calls_wrong();
-    printf("%d calls answer wrongly\n", wrong);
+    if (wrong) printf("%d expectations are not met, the first in line %d of c/calls.c\n", wrong, calls_first_wrong_line);
     return wrong != 0;
 }

@@ -12,7 +12,12 @@
 #include <sys/mman.h>
 #include "wasnugram.h"
 
-enum { STACK = 1 << 20, STATES = 64, SYMBOLS = 256, SAMPLES = 4096 };
+enum {
+    STACK = 1 << 20,
+    STATES = WASNUGRAM_MOST_STATES,
+    SYMBOLS = WASNUGRAM_MOST_SYMBOLS,
+    SAMPLES = WASNUGRAM_MOST_SAMPLES
+};
 
 static wasnugram_shape shape;
 static size_t samples_length;
@@ -25,8 +30,9 @@ static wasnugram_answer answer;
 
 /* The four tables and the samples, each with its length. */
 #define MODEL                                                                                                          \
-    shape, transition, shape.states * shape.states, emission, shape.states * SYMBOLS, initial, shape.states, end,      \
-        shape.states, samples, samples_length
+    shape, transition, WASNUGRAM_MODEL_TRANSITION(shape.states), emission,                                             \
+        WASNUGRAM_MODEL_EMISSION(shape.states, SYMBOLS), initial, WASNUGRAM_MODEL_INITIAL(shape.states), end,          \
+        WASNUGRAM_MODEL_END(shape.states), samples, samples_length
 
 static void nothing(void) {}
 
@@ -102,11 +108,11 @@ static size_t used(void (*call)(void), unsigned char paint) {
     struct run run = { call, paint, 0 };
     pthread_attr_t attributes;
     pthread_t thread;
-    answer.refusal = 0;
+    answer.refusal = WASNUGRAM_DONE;
     if (pthread_attr_init(&attributes) || pthread_attr_setstack(&attributes, stack, STACK)) exit(2);
     if (pthread_create(&thread, &attributes, measured, &run) || pthread_join(thread, NULL)) exit(2);
     pthread_attr_destroy(&attributes);
-    return answer.refusal == 0 ? run.used : STACK;
+    return answer.refusal == WASNUGRAM_DONE ? run.used : STACK;
 }
 
 static size_t mark(void (*call)(void), size_t states, size_t length) {

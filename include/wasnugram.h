@@ -1,40 +1,124 @@
 /* Wasnugram: a hidden-Markov decoder whose every answer is proved. This header is the manual.
  *
- * Build the archive with `rt staticlib wasnugram` and link target/staticlib/libwasnugram.a. It needs memcpy and memset and nothing
- * else: no heap, no statics, no floating-point environment but round-to-nearest. So a call may run in an interrupt or a thread beside
- * any other, as long as nothing that one of them writes is lent to the other.
+ * LENGTHS COUNT ENTRIES, NEVER BYTES. Each buffer is a pointer and a length. A table of 24 doubles has the length 24, not sizeof. A call
+ * believes its lengths: one that is too large makes it read and write what is not yours. The macros below give every length.
  *
- * Memory. The caller lends everything. A pointer may be null only where its length is 0. An output may not overlap another output
- * or an input; inputs may overlap each other. Nothing is read or written past a length. An output may be longer than needed: its
- * surplus never changes.
+ * Linking. `rt staticlib wasnugram` builds target/staticlib/libwasnugram.a, for x86-64 Linux and the System V calling convention: the
+ * kit builds for no other processor. The archive needs memcpy and memset and nothing else: no heap, no statics, no libc.
+ *
+ * Floating point. Numbers are IEEE doubles, rounded to nearest, with subnormal numbers kept and exceptions masked, as a process starts.
+ * So never link with -ffast-math or -Ofast: that makes the processor take subnormal numbers for zero (DAZ, FTZ) in all code, ours too.
+ * An entry of +2^-1074 then passes the check that should refuse it, and no promise holds.
+ *
+ * Threads and interrupts. A call keeps nothing, so it may run beside any other, in a thread or a signal handler, as long as nothing that
+ * one of them writes is lent to another. An interrupt handler saves the floating-point registers before it calls.
+ *
+ * Memory. The caller lends everything. A pointer may be null only where its length is 0. Doubles are aligned to 8 bytes, uint16_t to 2.
+ * An output may not overlap another output or an input; inputs may overlap each other. Inputs are never written: they may lie in ROM.
+ * Nothing is read or written past a length. An output may be longer than needed: its surplus never changes.
+ *
+ * Flipped bits. Each call checks every entry before it decodes. A flip that makes an entry NaN or lifts it above 0 is refused; one between
+ * that check and the entry's use is seen by the next call only. A flip that leaves an entry at most 0 makes another good model, which no
+ * call can tell: keep a checksum of the tables beside them.
  *
  * A model of S states and M symbols is four tables of doubles, natural logarithms of probabilities, each at most 0 and not NaN
  * (-0.0 and minus infinity are good):
  *
- *   table 0  transition  S*S   entry k*S + j: from state k to state j
- *   table 1  emission    S*M   entry j*M + x: symbol x in state j
- *   table 2  initial     S
- *   table 3  end         S     without an end state every entry must be +0.0
+ *   table 0  transition  S*S entries   entry k*S + j: from state k to state j
+ *   table 1  emission    S*M entries   entry j*M + x: symbol x in state j
+ *   table 2  initial     S entries
+ *   table 3  end         S entries     without an end state every entry must be +0.0
  *
- * S is 1 to 64, M 1 to 256. Table number 4 is the samples, T of them, 0 to 4,096, each below M. Outputs are numbered from 5 in
- * argument order.
+ * S is 1 to 64, M 1 to 256. Table 4 is the samples, T of them, 0 to 4,096, each below M. Outputs are numbered from 5 in argument order.
  *
- * Answers. `refusal` is 0 where the call is done; else nothing that was lent has changed (9 clears scratch) and `value` is minus
- * infinity:
+ * Answers. `refusal` is WASNUGRAM_DONE, or it says what is wrong; then `table` and `place` say where, `value` is minus infinity, and
+ * nothing that was lent has changed (WASNUGRAM_ZERO_MASS clears scratch). Checks run in the order of their numbers, tables and outputs
+ * by number, places upward; the first fault answers.
  *
- *   1  S is 0 or above 64                           place S
- *   2  M is 0 or above 256                          place M
- *   3  T is above 4,096                             table 4, place T
- *   4  no samples (forward and a training pass)     table 4, place 0
- *   5  a model table has a wrong length             its table, place its length
- *   6  an output is too short                       its number, place its length
- *   7  an entry is not good, or an argument is outside its domain   its table, place the first such index
- *   8  a sample is M or more                        table 4, place the first such index
- *   9  a training pass meets zero mass              place the state, or S for the whole; the needed scratch is all +0.0 then
- *  10  wasnugram_ln_sub_exp with p0 < p1            table 0, place 0
- *  11  wasnugram_cap_numerical_overshoot: more than epsilon above 0, or NaN in either
+ * DONE WITH MINUS INFINITY MEANS THAT NO PATH EXPLAINS THE SAMPLES. The path that was written means nothing then: charge no fare from it.
+ * Ask wasnugram_is_possible before you use a path.
  *
- * Checks run in this order, tables and outputs by number, places upward; the first fault answers.
+ * Example 1. At power-up the model is checked; then passages are decoded. Each buffer has room for 240 samples:
+ *
+ *     #include <math.h>
+ *     #include <stdio.h>
+ *     #include "wasnugram.h"
+ *
+ *     enum { S = 2, M = 3, ROOM = 240 };
+ *     static const double transition[WASNUGRAM_MODEL_TRANSITION(S)] = { -1, -2, -2, -1 };
+ *     static const double emission[WASNUGRAM_MODEL_EMISSION(S, M)] = { -1, -3, -INFINITY, -3, -1, -INFINITY };
+ *     static const double initial[WASNUGRAM_MODEL_INITIAL(S)] = { -1, -2 };
+ *     static const double end[WASNUGRAM_MODEL_END(S)] = { 0, 0 };
+ *     static const wasnugram_model model = { { S, M, 0 }, transition, emission, initial, end };
+ *
+ *     static uint8_t path[WASNUGRAM_VITERBI_PATH(ROOM)];
+ *     static double values[WASNUGRAM_VITERBI_VALUES(S, ROOM)];
+ *     static uint8_t from[WASNUGRAM_VITERBI_FROM(S, ROOM)];
+ *     static const wasnugram_viterbi_outputs outputs = { ROOM, path, values, from };
+ *
+ *     static void decode(const uint16_t *samples, size_t samples_length) {
+ *         wasnugram_answer a = wasnugram_viterbi_of(&model, samples, samples_length, &outputs);
+ *         if (a.refusal != WASNUGRAM_DONE) {
+ *             printf("refusal %d, table %d, place %zu\n", a.refusal, a.table, a.place);
+ *         } else if (!wasnugram_is_possible(a)) {
+ *             printf("no path explains these samples: no fare\n");
+ *         } else {
+ *             printf("value %g, last state %d\n", a.value, path[samples_length - 1]);
+ *         }
+ *     }
+ *
+ *     int main(void) {
+ *         const uint16_t adult[] = { 0, 1, 1 }, impossible[] = { 0, 2, 1 }, dirty[] = { 0, 1, 3 };
+ *         if (wasnugram_check_of(&model).refusal != WASNUGRAM_DONE) return 1;
+ *         decode(adult, 3);
+ *         decode(impossible, 3);
+ *         decode(dirty, 3);
+ *         return 0;
+ *     }
+ *
+ * It prints:
+ *
+ *     value -7, last state 1
+ *     no path explains these samples: no fare
+ *     refusal 8, table 4, place 2
+ *
+ * Example 2. The same without the structs, where every length is said, and a damaged model:
+ *
+ *     #include <stdio.h>
+ *     #include "wasnugram.h"
+ *
+ *     enum { S = 2, M = 2, T = 3 };
+ *
+ *     int main(void) {
+ *         const wasnugram_shape shape = { S, M, 0 };
+ *         const double transition[WASNUGRAM_MODEL_TRANSITION(S)] = { -1, -2, -2, -1 };
+ *         const double emission[WASNUGRAM_MODEL_EMISSION(S, M)] = { -1, -3, -3, +1 };
+ *         const double initial[WASNUGRAM_MODEL_INITIAL(S)] = { -1, -2 };
+ *         const double end[WASNUGRAM_MODEL_END(S)] = { 0, 0 };
+ *         const uint16_t samples[T] = { 0, 1, 1 };
+ *         uint8_t path[WASNUGRAM_VITERBI_PATH(T)], from[WASNUGRAM_VITERBI_FROM(S, T)];
+ *         double values[WASNUGRAM_VITERBI_VALUES(S, T)];
+ *         wasnugram_answer a = wasnugram_viterbi(
+ *             shape,
+ *             transition, WASNUGRAM_MODEL_TRANSITION(S),
+ *             emission, WASNUGRAM_MODEL_EMISSION(S, M),
+ *             initial, WASNUGRAM_MODEL_INITIAL(S),
+ *             end, WASNUGRAM_MODEL_END(S),
+ *             samples, T,
+ *             path, WASNUGRAM_VITERBI_PATH(T),
+ *             values, WASNUGRAM_VITERBI_VALUES(S, T),
+ *             from, WASNUGRAM_VITERBI_FROM(S, T));
+ *         if (wasnugram_is_possible(a)) {
+ *             printf("value %g, last state %d\n", a.value, path[T - 1]);
+ *         } else if (a.refusal == WASNUGRAM_NOT_GOOD && a.table == WASNUGRAM_EMISSION) {
+ *             printf("the emission of symbol %zu in state %zu is damaged\n", a.place % M, a.place / M);
+ *         }
+ *         return 0;
+ *     }
+ *
+ * It prints:
+ *
+ *     the emission of symbol 1 in state 1 is damaged
  */
 #ifndef WASNUGRAM_H
 #define WASNUGRAM_H
@@ -46,6 +130,63 @@
 extern "C" {
 #endif
 
+#define WASNUGRAM_VERSION "0.1.0"
+#define WASNUGRAM_VERSION_MAJOR 0
+#define WASNUGRAM_VERSION_MINOR 1
+#define WASNUGRAM_VERSION_PATCH 0
+
+/* The most that a call takes. */
+#define WASNUGRAM_MOST_STATES 64
+#define WASNUGRAM_MOST_SYMBOLS 256
+#define WASNUGRAM_MOST_SAMPLES 4096
+
+/* How many entries (never bytes) each buffer needs, for S states, M symbols and T samples. A model's tables have exactly so many. */
+#define WASNUGRAM_MODEL_TRANSITION(S) ((size_t)(S) * (size_t)(S))
+#define WASNUGRAM_MODEL_EMISSION(S, M) ((size_t)(S) * (size_t)(M))
+#define WASNUGRAM_MODEL_INITIAL(S) ((size_t)(S))
+#define WASNUGRAM_MODEL_END(S) ((size_t)(S))
+
+/* Outputs have at least so many entries. */
+#define WASNUGRAM_VITERBI_PATH(T) ((size_t)(T))
+#define WASNUGRAM_VITERBI_VALUES(S, T) ((size_t)(S) * (size_t)(T))
+#define WASNUGRAM_VITERBI_FROM(S, T) ((size_t)(S) * (size_t)(T))
+#define WASNUGRAM_FORWARD_VALUES(S, T) ((size_t)(S) * (size_t)(T))
+#define WASNUGRAM_BACKWARD_VALUES(S, T) ((size_t)(S) * (size_t)(T))
+#define WASNUGRAM_BAUM_WELCH_NEW_TRANSITION(S) WASNUGRAM_MODEL_TRANSITION(S)
+#define WASNUGRAM_BAUM_WELCH_NEW_EMISSION(S, M) WASNUGRAM_MODEL_EMISSION(S, M)
+#define WASNUGRAM_BAUM_WELCH_NEW_INITIAL(S) WASNUGRAM_MODEL_INITIAL(S)
+#define WASNUGRAM_BAUM_WELCH_NEW_END(S) WASNUGRAM_MODEL_END(S)
+#define WASNUGRAM_BAUM_WELCH_ALPHA(S, T) ((size_t)(S) * (size_t)(T))
+#define WASNUGRAM_BAUM_WELCH_BETA(S, T) ((size_t)(S) * (size_t)(T))
+
+/* So many sums for N log-probabilities. */
+#define WASNUGRAM_LN_CUMSUM_EXP_SUMS(N) ((size_t)(N))
+
+/* What an answer's `refusal` says, and which table and place it names. 12 is never given. A later version may add numbers. */
+typedef enum {
+    WASNUGRAM_DONE = 0,
+    WASNUGRAM_BAD_STATES = 1,           /* S is 0 or above 64: place S */
+    WASNUGRAM_BAD_SYMBOLS = 2,          /* M is 0 or above 256: place M */
+    WASNUGRAM_TOO_MANY_SAMPLES = 3,     /* T is above 4,096: table 4, place T */
+    WASNUGRAM_NO_SAMPLES = 4,           /* T is 0, in forward or a training pass: table 4, place 0 */
+    WASNUGRAM_WRONG_LENGTH = 5,         /* a model table has a wrong length: its table, place its length */
+    WASNUGRAM_OUTPUT_TOO_SHORT = 6,     /* an output or scratch is too short: its number, place its length */
+    WASNUGRAM_NOT_GOOD = 7,             /* an entry is not good, or an argument is outside its domain: its table, the first such place */
+    WASNUGRAM_UNKNOWN_SYMBOL = 8,       /* a sample is M or more: table 4, the first such place */
+    WASNUGRAM_ZERO_MASS = 9,            /* a training pass meets zero mass: place the state, or S for the whole */
+    WASNUGRAM_NEGATIVE_DIFFERENCE = 10, /* wasnugram_ln_sub_exp with p0 < p1 */
+    WASNUGRAM_OVERSHOOT = 11            /* wasnugram_cap_numerical_overshoot: above 0 by more than epsilon, or a NaN */
+} wasnugram_refusal;
+
+/* What an answer's `table` says of a call on a model: these, or an output's number, from 5. */
+typedef enum {
+    WASNUGRAM_TRANSITION = 0,
+    WASNUGRAM_EMISSION = 1,
+    WASNUGRAM_INITIAL = 2,
+    WASNUGRAM_END = 3,
+    WASNUGRAM_SAMPLES = 4
+} wasnugram_table;
+
 typedef struct {
     size_t states;
     size_t symbols;
@@ -53,15 +194,35 @@ typedef struct {
 } wasnugram_shape;
 
 typedef struct {
-    uint8_t refusal;
-    uint8_t table;
-    size_t place;
+    uint8_t refusal; /* a wasnugram_refusal */
+    uint8_t table;   /* a wasnugram_table, or an output's number; 0 where none is named */
+    size_t place;    /* counts entries; 0 where none is named */
     double value;
 } wasnugram_answer;
 
-/* The best path. Writes path (T bytes, one state each), values (T*S: the value of each state at each sample) and from (T*S bytes: the
- * state before it). The value is the best path's score. No samples: done, nothing written, minus infinity.
- * For 12 states and 240 samples the outputs take 240 + 23,040 + 2,880 bytes. */
+/* Whether a call is done and its value is above minus infinity: only then does a path explain the samples. It looks at the value's bits,
+ * so that -ffast-math in the code that asks does not mislead it. */
+static inline int wasnugram_is_possible(wasnugram_answer answer) {
+    union {
+        double value;
+        uint64_t bits;
+    } value = { answer.value };
+    return answer.refusal == WASNUGRAM_DONE && value.bits != UINT64_C(0xfff0000000000000);
+}
+
+/* The best path. Writes, all lengths in entries and not in bytes:
+ *
+ *   output 5  path    T      the state at each sample
+ *   output 6  values  T*S    entry t*S + j: the value of state j at sample t
+ *   output 7  from    T*S    entry t*S + j: the state before it on the best way there; state j itself in the first row
+ *
+ * The value is the best path's score: the sum from the left of initial, emission, transition, emission and so on. The end table is
+ * checked and not used: Viterbi does not count the way out; forward, backward and a training pass do.
+ *
+ * Ties. The highest-numbered of the best wins, among predecessors as for the last state. A predecessor at minus infinity ranks below
+ * every other one; the rest rank by value + transition.
+ *
+ * No samples: done, nothing written, minus infinity. So a call without samples and outputs checks a model (wasnugram_check_of). */
 wasnugram_answer wasnugram_viterbi(
     wasnugram_shape shape,
     const double *transition, size_t transition_length,
@@ -73,7 +234,11 @@ wasnugram_answer wasnugram_viterbi(
     double *values, size_t values_length,
     uint8_t *from, size_t from_length);
 
-/* How likely the samples are. Writes values (T*S): row t is alpha at sample t. The value is the likelihood's logarithm. */
+/* How likely the samples are. Writes, the length in entries and not in bytes:
+ *
+ *   output 5  values  T*S    entry t*S + j: alpha of state j at sample t
+ *
+ * The value is the likelihood's logarithm; minus infinity: the model cannot give these samples. No samples are refused with 4. */
 wasnugram_answer wasnugram_forward(
     wasnugram_shape shape,
     const double *transition, size_t transition_length,
@@ -83,7 +248,11 @@ wasnugram_answer wasnugram_forward(
     const uint16_t *samples, size_t samples_length,
     double *values, size_t values_length);
 
-/* The same from the end. Writes values (T*S): row i is beta at sample T-1-i. No samples: done, nothing written, minus infinity. */
+/* The same from the end. Writes, the length in entries and not in bytes:
+ *
+ *   output 5  values  T*S    entry i*S + j: beta of state j at sample T-1-i, so that the last sample comes first
+ *
+ * No samples: done, nothing written, minus infinity. */
 wasnugram_answer wasnugram_backward(
     wasnugram_shape shape,
     const double *transition, size_t transition_length,
@@ -93,9 +262,16 @@ wasnugram_answer wasnugram_backward(
     const uint16_t *samples, size_t samples_length,
     double *values, size_t values_length);
 
-/* One training pass (Baum and Welch): the model that makes the samples likelier, into new_transition (S*S), new_emission (S*M),
- * new_initial (S) and new_end (S). alpha and beta are scratch of T*S each, all +0.0 in their needed part once the pass is done or
- * refused with 9. The value is the likelihood's logarithm under the model that was lent. */
+/* One training pass (Baum and Welch): the model that makes the samples likelier. Writes, all lengths in entries and not in bytes:
+ *
+ *   output 5   new_transition  S*S
+ *   output 6   new_emission    S*M
+ *   output 7   new_initial     S
+ *   output 8   new_end         S
+ *   output 9   alpha           T*S    scratch: all +0.0 in its needed part once the pass is done or refused with 9
+ *   output 10  beta            T*S    scratch, the same
+ *
+ * The value is the likelihood's logarithm under the model that was lent. No samples are refused with 4. */
 wasnugram_answer wasnugram_baum_welch(
     wasnugram_shape shape,
     const double *transition, size_t transition_length,
@@ -110,21 +286,127 @@ wasnugram_answer wasnugram_baum_welch(
     double *alpha, size_t alpha_length,
     double *beta, size_t beta_length);
 
-/* The kernels: exp(d) for d at most 0, ln(x) for x at least 0; and ln(1 - exp(p)) for p at most 0. */
+/* The kernels: exp(d) for d at most 0, ln(x) for x at least 0; and ln(1 - exp(p)) for p at most 0. Else 7, table 0, place 0. */
 wasnugram_answer wasnugram_exp(double d);
 wasnugram_answer wasnugram_ln(double x);
 wasnugram_answer wasnugram_ln_one_minus_exp(double p);
 
-/* Sums of log-probabilities. A NaN is 7; its place is the argument's number from 0, or the index in the slice. */
+/* Sums of log-probabilities: ln of the sum of exp over probs_length entries (not bytes), ln(exp(p0) + exp(p1)), ln(exp(p0) - exp(p1)).
+ * A NaN is 7; its place is the argument's number from 0, or the index in the slice. */
 wasnugram_answer wasnugram_ln_sum_exp(const double *probs, size_t probs_length);
 wasnugram_answer wasnugram_ln_add_exp(double p0, double p1);
 wasnugram_answer wasnugram_ln_sub_exp(double p0, double p1);
 
-/* Output 5: the running sums, one for each entry. The value is the last, minus infinity if there is none. */
+/* Output 5: the running sums, one for each entry; both lengths count entries and not bytes. The value is the last sum, minus infinity if
+ * there is none. */
 wasnugram_answer wasnugram_ln_cumsum_exp(const double *probs, size_t probs_length, double *sums, size_t sums_length);
 
 /* The value, or 0.0 where it is above 0 by at most epsilon. */
 wasnugram_answer wasnugram_cap_numerical_overshoot(double value, double epsilon);
+
+/* The calls on a model again, with structs in place of lengths. Every length is worked out from the model's shape, so that no length in
+ * bytes can be lent: each table must have the entries that its macro gives. No pointer to a struct may be null. */
+typedef struct {
+    wasnugram_shape shape;
+    const double *transition; /* WASNUGRAM_MODEL_TRANSITION(states) entries */
+    const double *emission;   /* WASNUGRAM_MODEL_EMISSION(states, symbols) entries */
+    const double *initial;    /* WASNUGRAM_MODEL_INITIAL(states) entries */
+    const double *end;        /* WASNUGRAM_MODEL_END(states) entries */
+} wasnugram_model;
+
+/* Outputs with room for so many samples of the model that they are lent with. More samples than that are refused with 6. */
+typedef struct {
+    size_t room;    /* in samples */
+    uint8_t *path;  /* WASNUGRAM_VITERBI_PATH(room) entries */
+    double *values; /* WASNUGRAM_VITERBI_VALUES(states, room) entries */
+    uint8_t *from;  /* WASNUGRAM_VITERBI_FROM(states, room) entries */
+} wasnugram_viterbi_outputs;
+
+/* The output of forward or backward. */
+typedef struct {
+    size_t room;    /* in samples */
+    double *values; /* WASNUGRAM_FORWARD_VALUES(states, room) entries, which are as many as WASNUGRAM_BACKWARD_VALUES(states, room) */
+} wasnugram_likelihood_outputs;
+
+typedef struct {
+    size_t room;            /* in samples */
+    double *new_transition; /* WASNUGRAM_BAUM_WELCH_NEW_TRANSITION(states) entries */
+    double *new_emission;   /* WASNUGRAM_BAUM_WELCH_NEW_EMISSION(states, symbols) entries */
+    double *new_initial;    /* WASNUGRAM_BAUM_WELCH_NEW_INITIAL(states) entries */
+    double *new_end;        /* WASNUGRAM_BAUM_WELCH_NEW_END(states) entries */
+    double *alpha;          /* WASNUGRAM_BAUM_WELCH_ALPHA(states, room) entries */
+    double *beta;           /* WASNUGRAM_BAUM_WELCH_BETA(states, room) entries */
+} wasnugram_baum_welch_outputs;
+
+/* wasnugram_viterbi on a model. samples_length counts entries, not bytes. */
+static inline wasnugram_answer wasnugram_viterbi_of(
+    const wasnugram_model *model, const uint16_t *samples, size_t samples_length, const wasnugram_viterbi_outputs *outputs) {
+    size_t states = model->shape.states, room = outputs->room;
+    return wasnugram_viterbi(
+        model->shape,
+        model->transition, WASNUGRAM_MODEL_TRANSITION(states),
+        model->emission, WASNUGRAM_MODEL_EMISSION(states, model->shape.symbols),
+        model->initial, WASNUGRAM_MODEL_INITIAL(states),
+        model->end, WASNUGRAM_MODEL_END(states),
+        samples, samples_length,
+        outputs->path, WASNUGRAM_VITERBI_PATH(room),
+        outputs->values, WASNUGRAM_VITERBI_VALUES(states, room),
+        outputs->from, WASNUGRAM_VITERBI_FROM(states, room));
+}
+
+/* Whether a model is good, at power-up or whenever flash may have suffered: WASNUGRAM_DONE, or what is wrong and where. It is
+ * wasnugram_viterbi with no samples, so that its value is minus infinity in any case. */
+static inline wasnugram_answer wasnugram_check_of(const wasnugram_model *model) {
+    wasnugram_viterbi_outputs none = { 0, NULL, NULL, NULL };
+    return wasnugram_viterbi_of(model, NULL, 0, &none);
+}
+
+/* wasnugram_forward on a model. samples_length counts entries, not bytes. */
+static inline wasnugram_answer wasnugram_forward_of(
+    const wasnugram_model *model, const uint16_t *samples, size_t samples_length, const wasnugram_likelihood_outputs *outputs) {
+    size_t states = model->shape.states;
+    return wasnugram_forward(
+        model->shape,
+        model->transition, WASNUGRAM_MODEL_TRANSITION(states),
+        model->emission, WASNUGRAM_MODEL_EMISSION(states, model->shape.symbols),
+        model->initial, WASNUGRAM_MODEL_INITIAL(states),
+        model->end, WASNUGRAM_MODEL_END(states),
+        samples, samples_length,
+        outputs->values, WASNUGRAM_FORWARD_VALUES(states, outputs->room));
+}
+
+/* wasnugram_backward on a model. samples_length counts entries, not bytes. */
+static inline wasnugram_answer wasnugram_backward_of(
+    const wasnugram_model *model, const uint16_t *samples, size_t samples_length, const wasnugram_likelihood_outputs *outputs) {
+    size_t states = model->shape.states;
+    return wasnugram_backward(
+        model->shape,
+        model->transition, WASNUGRAM_MODEL_TRANSITION(states),
+        model->emission, WASNUGRAM_MODEL_EMISSION(states, model->shape.symbols),
+        model->initial, WASNUGRAM_MODEL_INITIAL(states),
+        model->end, WASNUGRAM_MODEL_END(states),
+        samples, samples_length,
+        outputs->values, WASNUGRAM_BACKWARD_VALUES(states, outputs->room));
+}
+
+/* wasnugram_baum_welch on a model. samples_length counts entries, not bytes. */
+static inline wasnugram_answer wasnugram_baum_welch_of(
+    const wasnugram_model *model, const uint16_t *samples, size_t samples_length, const wasnugram_baum_welch_outputs *outputs) {
+    size_t states = model->shape.states, symbols = model->shape.symbols, room = outputs->room;
+    return wasnugram_baum_welch(
+        model->shape,
+        model->transition, WASNUGRAM_MODEL_TRANSITION(states),
+        model->emission, WASNUGRAM_MODEL_EMISSION(states, symbols),
+        model->initial, WASNUGRAM_MODEL_INITIAL(states),
+        model->end, WASNUGRAM_MODEL_END(states),
+        samples, samples_length,
+        outputs->new_transition, WASNUGRAM_BAUM_WELCH_NEW_TRANSITION(states),
+        outputs->new_emission, WASNUGRAM_BAUM_WELCH_NEW_EMISSION(states, symbols),
+        outputs->new_initial, WASNUGRAM_BAUM_WELCH_NEW_INITIAL(states),
+        outputs->new_end, WASNUGRAM_BAUM_WELCH_NEW_END(states),
+        outputs->alpha, WASNUGRAM_BAUM_WELCH_ALPHA(states, room),
+        outputs->beta, WASNUGRAM_BAUM_WELCH_BETA(states, room));
+}
 
 #ifdef __cplusplus
 }

@@ -1,0 +1,247 @@
+/* Random bits in every lent buffer, payloads of NaN included, and every byte compared. A refused call leaves every byte alone; refusal 9
+ * makes the needed scratch +0.0 and leaves the rest alone; a done call leaves its inputs and every surplus alone. All buffers of a case
+ * lie in one arena with gaps between them, which must not change either. After each case one bit that must stay is flipped, and the
+ * comparison has to see it. */
+#include <stdio.h>
+#include <stdlib.h>
+#include <string.h>
+#include "wasnugram.h"
+
+enum { CASES = 200000, ARENA = 4096, OUTPUT = 5, BUFFERS = 11, REFUSALS = 12 };
+enum call { VITERBI, FORWARD, BACKWARD, BAUM_WELCH, LN_SUM_EXP, LN_CUMSUM_EXP, CALLS };
+
+/* The refusals that each call has to meet, done among them. */
+static const struct {
+    const char *name;
+    unsigned refusals;
+} CALL[CALLS] = {
+    [VITERBI] = { "viterbi", 0x1ef },
+    [FORWARD] = { "forward", 0x1ff },
+    [BACKWARD] = { "backward", 0x1ef },
+    [BAUM_WELCH] = { "baum_welch", 0x3ff },
+    [LN_SUM_EXP] = { "ln_sum_exp", 0x81 },
+    [LN_CUMSUM_EXP] = { "ln_cumsum_exp", 0xc1 },
+};
+
+/* A buffer by its number; `needed` is how many entries an output must have. */
+struct buffer {
+    size_t start, entry, length, needed;
+};
+
+static struct buffer buffers[BUFFERS];
+static _Alignas(8) unsigned char arena[ARENA], before[ARENA];
+static size_t used;
+static wasnugram_shape shape;
+static size_t samples_length;
+
+/* Marsaglia's xorshift, from a fixed seed. */
+static uint64_t state = 20240101;
+
+static uint64_t random_bits(void) {
+    state ^= state << 13;
+    state ^= state >> 7;
+    state ^= state << 17;
+    return state;
+}
+
+static size_t below(size_t n) {
+    return (size_t)((random_bits() >> 11) % n);
+}
+
+/* Sets a buffer out after a gap. */
+static void place(size_t number, size_t entry, size_t length, size_t needed) {
+    used = (used + 1 + below(24) + entry - 1) / entry * entry;
+    buffers[number] = (struct buffer){ used, entry, length, needed };
+    used += length * entry;
+    if (used + 64 > ARENA) exit(2);
+}
+
+static void place_output(size_t number, size_t entry, size_t needed) {
+    place(number, entry, needed + below(4), needed);
+}
+
+static void place_outputs(enum call call, size_t states, size_t symbols, size_t samples) {
+    size_t cells = states * samples;
+    const size_t pass[] = { states * states, states * symbols, states, states, cells, cells };
+    if (call == VITERBI) {
+        place_output(OUTPUT, 1, samples);
+        place_output(OUTPUT + 1, sizeof(double), cells);
+        place_output(OUTPUT + 2, 1, cells);
+    } else if (call == BAUM_WELCH) {
+        for (size_t i = 0; i < 6; i++) place_output(OUTPUT + i, sizeof(double), pass[i]);
+    } else {
+        place_output(OUTPUT, sizeof(double), cells);
+    }
+}
+
+/* A number's bits at most 0 and not NaN: minus infinity now and then. */
+static uint64_t good_bits(void) {
+    uint64_t bits = random_bits() | UINT64_C(1) << 63, infinity = UINT64_C(0xfff0000000000000);
+    if (below(16) == 0) return infinity;
+    return (bits & infinity) == infinity ? bits ^ UINT64_C(1) << 52 : bits;
+}
+
+static void *at(size_t number, size_t i) {
+    return arena + buffers[number].start + i * buffers[number].entry;
+}
+
+static void set_word(size_t number, size_t i, uint64_t bits) {
+    memcpy(at(number, i), &bits, buffers[number].entry);
+}
+
+/* Makes every entry of a table good. */
+static void repair(size_t number) {
+    int is_zero = number == WASNUGRAM_END && !shape.ends;
+    for (size_t i = 0; i < buffers[number].length; i++) set_word(number, i, is_zero ? 0 : good_bits());
+}
+
+static void repair_model(void) {
+    for (size_t number = 0; number < 4; number++) repair(number);
+    for (size_t i = 0; i < buffers[4].length; i++) set_word(4, i, below(shape.symbols));
+}
+
+/* An entry of random bits, half of them a NaN with a payload of its own. */
+static void damage(size_t number) {
+    if (buffers[number].length == 0) return;
+    uint64_t bits = random_bits();
+    set_word(number, below(buffers[number].length), below(2) ? bits : bits | UINT64_C(0x7ff0000000000001));
+}
+
+/* What is wrong with a case on a model, by the number of the refusal that it asks for. */
+static void spoil(unsigned fault) {
+    size_t table = below(4), output = OUTPUT + below(buffers[OUTPUT + 5].entry ? 6 : buffers[OUTPUT + 2].entry ? 3 : 1);
+    switch (fault) {
+    case 1: shape.states = below(2) ? 0 : 65 + below(SIZE_MAX >> 12); break;
+    case 2: shape.symbols = below(2) ? 0 : 257 + below(SIZE_MAX >> 12); break;
+    case 3: samples_length = 4097 + below(SIZE_MAX >> 12); break;
+    case 5: buffers[table].length += below(2) ? 1 : (size_t)-1; break;
+    case 6: buffers[output].length = buffers[output].needed ? below(buffers[output].needed) : 0; break;
+    case 7: damage(table); break;
+    case 8: damage(4); break;
+    case 9: for (size_t i = 0; i < buffers[2].length; i++) set_word(2, i, UINT64_C(0xfff0000000000000));
+    }
+}
+
+/* A case on a model: random bits, repaired and then spoilt, or left as they are. */
+static void set_model(enum call call) {
+    size_t states = 1 + below(4), symbols = 1 + below(5), samples = below(8);
+    unsigned fault = (unsigned)below(12);
+    shape = (wasnugram_shape){ states, symbols, (uint8_t)(below(2) ? random_bits() : 0) };
+    samples_length = fault == 4 ? 0 : samples;
+    place(0, sizeof(double), WASNUGRAM_MODEL_TRANSITION(states), 0);
+    place(1, sizeof(double), WASNUGRAM_MODEL_EMISSION(states, symbols), 0);
+    place(2, sizeof(double), WASNUGRAM_MODEL_INITIAL(states), 0);
+    place(3, sizeof(double), WASNUGRAM_MODEL_END(states), 0);
+    place(4, sizeof(uint16_t), samples_length, 0);
+    place_outputs(call, states, symbols, samples_length);
+    if (fault != 11) repair_model();
+    spoil(fault);
+}
+
+/* A case on a slice: half of the time with a NaN, and now and then with too short an output. */
+static void set_slice(enum call call) {
+    size_t length = below(12);
+    place(0, sizeof(double), length, 0);
+    repair(0);
+    if (below(2)) damage(0);
+    if (call == LN_SUM_EXP) return;
+    place_output(OUTPUT, sizeof(double), length);
+    if (length && below(3) == 0) buffers[OUTPUT].length = below(length);
+}
+
+static void set_case(enum call call) {
+    memset(buffers, 0, sizeof buffers);
+    used = 0;
+    for (size_t i = 0; i < ARENA; i += 8) {
+        uint64_t bits = random_bits();
+        memcpy(arena + i, &bits, 8);
+    }
+    if (call < LN_SUM_EXP) set_model(call);
+    else set_slice(call);
+    memcpy(before, arena, ARENA);
+}
+
+#define LENT(number) at(number, 0), buffers[number].length
+#define MODEL shape, LENT(0), LENT(1), LENT(2), LENT(3), at(4, 0), samples_length
+
+static wasnugram_answer made(enum call call) {
+    switch (call) {
+    case VITERBI: return wasnugram_viterbi(MODEL, LENT(5), LENT(6), LENT(7));
+    case FORWARD: return wasnugram_forward(MODEL, LENT(5));
+    case BACKWARD: return wasnugram_backward(MODEL, LENT(5));
+    case BAUM_WELCH: return wasnugram_baum_welch(MODEL, LENT(5), LENT(6), LENT(7), LENT(8), LENT(9), LENT(10));
+    case LN_SUM_EXP: return wasnugram_ln_sum_exp(LENT(0));
+    default: return wasnugram_ln_cumsum_exp(LENT(0), LENT(5));
+    }
+}
+
+/* Whether a call with this answer may change an output, or must clear it. */
+static int is_written(enum call call, size_t number, uint8_t refusal) {
+    int is_scratch = call == BAUM_WELCH && number >= OUTPUT + 4;
+    return buffers[number].entry && (refusal == WASNUGRAM_DONE || (refusal == WASNUGRAM_ZERO_MASS && is_scratch));
+}
+
+/* What memory has to be after the call: as it was, but what may be written is as it is, and what must be cleared is zero. */
+static void expect(enum call call, uint8_t refusal, unsigned char *expected) {
+    memcpy(expected, before, ARENA);
+    for (size_t number = OUTPUT; number < BUFFERS; number++) {
+        const struct buffer *b = &buffers[number];
+        if (!is_written(call, number, refusal)) continue;
+        if (call == BAUM_WELCH && number >= OUTPUT + 4) memset(expected + b->start, 0, b->needed * b->entry);
+        else memcpy(expected + b->start, arena + b->start, b->needed * b->entry);
+    }
+}
+
+static int is_as_expected(enum call call, uint8_t refusal) {
+    static unsigned char expected[ARENA];
+    expect(call, refusal, expected);
+    return memcmp(arena, expected, ARENA) == 0;
+}
+
+/* Whether this byte has to stay as it was. */
+static int stays(enum call call, uint8_t refusal, size_t byte) {
+    for (size_t number = OUTPUT; number < BUFFERS; number++) {
+        const struct buffer *b = &buffers[number];
+        if (is_written(call, number, refusal) && byte >= b->start && byte - b->start < b->needed * b->entry) return 0;
+    }
+    return 1;
+}
+
+/* Flips a bit that has to stay: whether the comparison sees it. */
+static int sees_a_flip(enum call call, uint8_t refusal) {
+    size_t byte = below(used);
+    if (!stays(call, refusal, byte)) return 1;
+    arena[byte] ^= (unsigned char)(1 << below(8));
+    return !is_as_expected(call, refusal);
+}
+
+/* A line for each call: each refusal that was met, 0 for done, and how often. How many were never met that should have been. */
+static int print(size_t met[CALLS][REFUSALS]) {
+    int missing = 0;
+    for (size_t i = 0; i < CALLS * REFUSALS; i++) {
+        size_t call = i / REFUSALS, refusal = i % REFUSALS;
+        if (refusal == 0) printf("%s%s, refusals met:", call ? "\n" : "", CALL[call].name);
+        if (met[call][refusal]) printf(" %zu (%zu times)", refusal, met[call][refusal]);
+        if ((CALL[call].refusals >> refusal & 1) != (met[call][refusal] != 0)) missing++;
+    }
+    printf("\n");
+    return missing;
+}
+
+int main(void) {
+    static size_t met[CALLS][REFUSALS];
+    size_t wrong = 0, unseen = 0;
+    for (size_t i = 0; i < CASES; i++) {
+        enum call call = (enum call)below(CALLS);
+        set_case(call);
+        wasnugram_answer a = made(call);
+        if (a.refusal >= REFUSALS) return 1;
+        met[call][a.refusal]++;
+        wrong += !is_as_expected(call, a.refusal);
+        unseen += !sees_a_flip(call, a.refusal);
+    }
+    int missing = print(met);
+    printf("%d cases of random bits: a byte that should stay changed in %zu, a flip was not seen in %zu\n", CASES, wrong, unseen);
+    if (missing) printf("%d kinds of refusal were not met, or met and not expected\n", missing);
+    return wrong || unseen || missing;
+}

@@ -1,0 +1,186 @@
+/* Wrong faces, and whether calls.c sees each: any two arguments of one type exchanged in an export, any two fields of a shape or an
+ * answer, any two exports of one signature. The linker puts these functions between calls.c and the archive (--wrap). */
+#include <stdio.h>
+#include "wasnugram.h"
+#include "calls.h"
+
+/* What can be exchanged within: how many places each has. */
+enum group {
+    VITERBI_NUMBERS, VITERBI_BYTES, VITERBI_SHAPE, FORWARD_NUMBERS, FORWARD_SHAPE, BACKWARD_NUMBERS, BACKWARD_SHAPE,
+    PASS_NUMBERS, PASS_SHAPE, ADD_ARGUMENTS, SUB_ARGUMENTS, CAP_ARGUMENTS, CUMSUM_NUMBERS, ANSWER, WALKS, OF_ONE, OF_TWO, GROUPS
+};
+
+static const struct {
+    const char *name;
+    size_t places;
+} GROUP[GROUPS] = {
+    [VITERBI_NUMBERS] = { "doubles of viterbi", 5 },
+    [VITERBI_BYTES] = { "bytes of viterbi", 2 },
+    [VITERBI_SHAPE] = { "shape of viterbi", 3 },
+    [FORWARD_NUMBERS] = { "doubles of forward", 5 },
+    [FORWARD_SHAPE] = { "shape of forward", 3 },
+    [BACKWARD_NUMBERS] = { "doubles of backward", 5 },
+    [BACKWARD_SHAPE] = { "shape of backward", 3 },
+    [PASS_NUMBERS] = { "doubles of baum_welch", 10 },
+    [PASS_SHAPE] = { "shape of baum_welch", 3 },
+    [ADD_ARGUMENTS] = { "arguments of ln_add_exp", 2 },
+    [SUB_ARGUMENTS] = { "arguments of ln_sub_exp", 2 },
+    [CAP_ARGUMENTS] = { "arguments of cap_numerical_overshoot", 2 },
+    [CUMSUM_NUMBERS] = { "doubles of ln_cumsum_exp", 2 },
+    [ANSWER] = { "fields of the answer", 3 },
+    [WALKS] = { "forward and backward", 2 },
+    [OF_ONE] = { "exp, ln, ln_one_minus_exp", 3 },
+    [OF_TWO] = { "ln_add_exp, ln_sub_exp, cap_numerical_overshoot", 3 },
+};
+
+static struct {
+    enum group group;
+    size_t first, second;
+} exchanged = { GROUPS, 0, 0 };
+
+/* Where the face that is tried finds what belongs at this place. */
+static size_t place(enum group group, size_t i) {
+    if (exchanged.group != group) return i;
+    return i == exchanged.first ? exchanged.second : i == exchanged.second ? exchanged.first : i;
+}
+
+static wasnugram_shape shape_of(enum group group, wasnugram_shape shape) {
+    size_t fields[] = { shape.states, shape.symbols, shape.ends };
+    return (wasnugram_shape){ fields[place(group, 0)], fields[place(group, 1)], (uint8_t)fields[place(group, 2)] };
+}
+
+static wasnugram_answer answer_of(wasnugram_answer a) {
+    size_t fields[] = { a.refusal, a.table, a.place };
+    return (wasnugram_answer){ (uint8_t)fields[place(ANSWER, 0)], (uint8_t)fields[place(ANSWER, 1)], fields[place(ANSWER, 2)], a.value };
+}
+
+struct numbers {
+    double *entries;
+    size_t length;
+};
+
+struct bytes {
+    uint8_t *entries;
+    size_t length;
+};
+
+#define LENT(list, group, i) list[place(group, i)].entries, list[place(group, i)].length
+#define TABLES(list, group) LENT(list, group, 0), LENT(list, group, 1), LENT(list, group, 2), LENT(list, group, 3)
+#define MODEL                                                                                                                \
+    wasnugram_shape shape, double *transition, size_t transition_length, double *emission, size_t emission_length,           \
+        double *initial, size_t initial_length, double *end, size_t end_length, uint16_t *samples, size_t samples_length
+#define MODEL_TABLES { transition, transition_length }, { emission, emission_length }, { initial, initial_length }, { end, end_length }
+#define PATH MODEL, uint8_t *path, size_t path_length, double *values, size_t values_length, uint8_t *from, size_t from_length
+#define WALK MODEL, double *values, size_t values_length
+#define PASS                                                                                                                 \
+    MODEL, double *new_transition, size_t new_transition_length, double *new_emission, size_t new_emission_length,           \
+        double *new_initial, size_t new_initial_length, double *new_end, size_t new_end_length, double *alpha,               \
+        size_t alpha_length, double *beta, size_t beta_length
+#define CUMSUM double *probs, size_t probs_length, double *sums, size_t sums_length
+
+wasnugram_answer __real_wasnugram_viterbi(PATH), __real_wasnugram_forward(WALK), __real_wasnugram_backward(WALK);
+wasnugram_answer __real_wasnugram_baum_welch(PASS), __real_wasnugram_ln_cumsum_exp(CUMSUM), __real_wasnugram_ln_sum_exp(double *, size_t);
+wasnugram_answer __real_wasnugram_exp(double), __real_wasnugram_ln(double), __real_wasnugram_ln_one_minus_exp(double);
+wasnugram_answer __real_wasnugram_ln_add_exp(double, double), __real_wasnugram_ln_sub_exp(double, double);
+wasnugram_answer __real_wasnugram_cap_numerical_overshoot(double, double);
+
+static wasnugram_answer (*const WALK_CALL[])(WALK) = { __real_wasnugram_forward, __real_wasnugram_backward };
+static wasnugram_answer (*const OF_ONE_CALL[])(double) = { __real_wasnugram_exp, __real_wasnugram_ln, __real_wasnugram_ln_one_minus_exp };
+static wasnugram_answer (*const OF_TWO_CALL[])(double, double) = { __real_wasnugram_ln_add_exp, __real_wasnugram_ln_sub_exp,
+                                                                  __real_wasnugram_cap_numerical_overshoot };
+
+wasnugram_answer __wrap_wasnugram_viterbi(PATH) {
+    struct numbers n[] = { MODEL_TABLES, { values, values_length } };
+    struct bytes b[] = { { path, path_length }, { from, from_length } };
+    return answer_of(__real_wasnugram_viterbi(shape_of(VITERBI_SHAPE, shape), TABLES(n, VITERBI_NUMBERS), samples, samples_length,
+                                              LENT(b, VITERBI_BYTES, 0), LENT(n, VITERBI_NUMBERS, 4), LENT(b, VITERBI_BYTES, 1)));
+}
+
+wasnugram_answer __wrap_wasnugram_forward(WALK) {
+    struct numbers n[] = { MODEL_TABLES, { values, values_length } };
+    return answer_of(WALK_CALL[place(WALKS, 0)](shape_of(FORWARD_SHAPE, shape), TABLES(n, FORWARD_NUMBERS), samples, samples_length,
+                                                LENT(n, FORWARD_NUMBERS, 4)));
+}
+
+wasnugram_answer __wrap_wasnugram_backward(WALK) {
+    struct numbers n[] = { MODEL_TABLES, { values, values_length } };
+    return answer_of(WALK_CALL[place(WALKS, 1)](shape_of(BACKWARD_SHAPE, shape), TABLES(n, BACKWARD_NUMBERS), samples, samples_length,
+                                                LENT(n, BACKWARD_NUMBERS, 4)));
+}
+
+wasnugram_answer __wrap_wasnugram_baum_welch(PASS) {
+    struct numbers n[] = { MODEL_TABLES, { new_transition, new_transition_length }, { new_emission, new_emission_length },
+                           { new_initial, new_initial_length }, { new_end, new_end_length },
+                           { alpha, alpha_length }, { beta, beta_length } };
+    return answer_of(__real_wasnugram_baum_welch(shape_of(PASS_SHAPE, shape), TABLES(n, PASS_NUMBERS), samples, samples_length,
+                                                 LENT(n, PASS_NUMBERS, 4), LENT(n, PASS_NUMBERS, 5), LENT(n, PASS_NUMBERS, 6),
+                                                 LENT(n, PASS_NUMBERS, 7), LENT(n, PASS_NUMBERS, 8), LENT(n, PASS_NUMBERS, 9)));
+}
+
+wasnugram_answer __wrap_wasnugram_ln_cumsum_exp(CUMSUM) {
+    struct numbers n[] = { { probs, probs_length }, { sums, sums_length } };
+    return answer_of(__real_wasnugram_ln_cumsum_exp(LENT(n, CUMSUM_NUMBERS, 0), LENT(n, CUMSUM_NUMBERS, 1)));
+}
+
+wasnugram_answer __wrap_wasnugram_ln_sum_exp(double *probs, size_t probs_length) {
+    return answer_of(__real_wasnugram_ln_sum_exp(probs, probs_length));
+}
+
+wasnugram_answer __wrap_wasnugram_exp(double d) {
+    return answer_of(OF_ONE_CALL[place(OF_ONE, 0)](d));
+}
+
+wasnugram_answer __wrap_wasnugram_ln(double x) {
+    return answer_of(OF_ONE_CALL[place(OF_ONE, 1)](x));
+}
+
+wasnugram_answer __wrap_wasnugram_ln_one_minus_exp(double p) {
+    return answer_of(OF_ONE_CALL[place(OF_ONE, 2)](p));
+}
+
+/* One of the calls of two numbers, with its arguments as the face has them. */
+static wasnugram_answer of_two(size_t call, enum group arguments, double x, double y) {
+    double argument[] = { x, y };
+    return answer_of(OF_TWO_CALL[place(OF_TWO, call)](argument[place(arguments, 0)], argument[place(arguments, 1)]));
+}
+
+wasnugram_answer __wrap_wasnugram_ln_add_exp(double p0, double p1) {
+    return of_two(0, ADD_ARGUMENTS, p0, p1);
+}
+
+wasnugram_answer __wrap_wasnugram_ln_sub_exp(double p0, double p1) {
+    return of_two(1, SUB_ARGUMENTS, p0, p1);
+}
+
+wasnugram_answer __wrap_wasnugram_cap_numerical_overshoot(double value, double epsilon) {
+    return of_two(2, CAP_ARGUMENTS, value, epsilon);
+}
+
+static size_t tried, unseen;
+
+/* Tries the face with two places exchanged. */
+static void try_face(enum group group, size_t first, size_t second) {
+    exchanged.group = group, exchanged.first = first, exchanged.second = second;
+    tried++;
+    if (calls_wrong()) return;
+    unseen++;
+    printf("a wrong face is not seen: %s, %zu and %zu exchanged\n", GROUP[group].name, first, second);
+}
+
+/* Tries every pair of places. */
+static void try_group(enum group group) {
+    size_t places = GROUP[group].places;
+    for (size_t i = 0; i < places * places; i++) {
+        if (i / places < i % places) try_face(group, i / places, i % places);
+    }
+}
+
+int main(void) {
+    if (calls_wrong()) {
+        printf("the right face is taken for a wrong one, in line %d of c/calls.c\n", calls_first_wrong_line);
+        return 1;
+    }
+    for (enum group group = 0; group < GROUPS; group++) try_group(group);
+    printf("%zu wrong faces tried, %zu not seen\n", tried, unseen);
+    return unseen != 0;
+}
