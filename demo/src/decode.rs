@@ -1,8 +1,8 @@
 //! One passage decoded: the lent memory, the row of states, and the fares that follow from it.
 
-use crate::model::Tables;
+use crate::model::{Tables, SHAPE};
 use crate::recording::LONGEST;
-use crate::states::{Fare, ALL, STATES};
+use crate::states::{Fare, ALL};
 use wasnugram::{viterbi, Refused};
 
 /// What a gate lends to the decoder, made once for its longest passage.
@@ -18,29 +18,31 @@ impl Lent {
     pub fn filled(with: u8) -> Lent {
         Lent {
             path: vec![with; LONGEST],
-            values: vec![f64::from(with); LONGEST * STATES],
-            from: vec![with; LONGEST * STATES],
+            values: vec![f64::from(with); SHAPE.cells(LONGEST)],
+            from: vec![with; SHAPE.cells(LONGEST)],
         }
     }
 }
 
+/// The row of states that explains the samples best, and its value. Where none explains them, the row is empty, so that
+/// no fare follows from it.
 pub struct Decoded {
     pub row: Vec<u8>,
     pub value: f64,
 }
 
-/// The row of states that explains the samples best, and its value.
 pub fn decode(tables: &Tables, samples: &[u16], lent: &mut Lent) -> Result<Decoded, Refused> {
-    let value = viterbi(
+    let decoded = viterbi(
         &tables.lend(),
         samples,
         &mut lent.path,
         &mut lent.values,
         &mut lent.from,
     )?;
+    let row = if decoded.is_possible() { decoded.path } else { &[] };
     Ok(Decoded {
-        row: lent.path[..samples.len()].to_vec(),
-        value,
+        row: row.to_vec(),
+        value: decoded.value,
     })
 }
 
@@ -68,6 +70,16 @@ pub fn fares(row: &[u8]) -> Vec<Fare> {
 #[cfg(test)]
 mod tests {
     use super::*;
+    use crate::model::INITIAL;
+
+    #[test]
+    fn nothing_follows_from_samples_that_no_row_explains() {
+        let mut tables = Tables::of_the_gate();
+        tables.0[INITIAL].fill(f64::NEG_INFINITY);
+        let decoded = decode(&tables, &[0, 127, 0], &mut Lent::filled(4)).unwrap();
+        assert_eq!((decoded.row.len(), decoded.value), (0, f64::NEG_INFINITY));
+        assert_eq!(fares(&decoded.row), []);
+    }
 
     #[test]
     fn each_body_pays_once() {

@@ -3,7 +3,7 @@
 use crate::decode::{decode, Lent};
 use crate::model::{Tables, EMISSION, END, NAMES};
 use crate::states::{ADULT, SYMBOLS};
-use wasnugram::{viterbi, Refusal, Refused};
+use wasnugram::{viterbi, Refusal, Refused, Table};
 
 /// A bit of an entry of a table; bit 63 is the sign.
 #[derive(Clone, Copy)]
@@ -30,6 +30,13 @@ impl Flip {
             place: ADULT * SYMBOLS + 0b0111_1111,
             bit: 63,
         }
+    }
+
+    /// Every bit of every entry.
+    pub fn all(tables: &Tables) -> impl Iterator<Item = Flip> {
+        let lengths = tables.0.each_ref().map(Vec::len);
+        let entries = (0..NAMES.len()).flat_map(move |table| (0..lengths[table]).map(move |place| (table, place)));
+        entries.flat_map(|(table, place)| (0..u64::BITS).map(move |bit| Flip { table, place, bit }))
     }
 
     pub fn apply(self, tables: &mut Tables) {
@@ -69,7 +76,7 @@ impl Tally {
     }
 }
 
-/// Tries every bit of every entry. No samples are lent: the checks of a model come first, and nothing follows them.
+/// Tries every flip. No samples are lent: the checks of a model come first, and nothing follows them.
 pub fn every_flip(tables: &Tables) -> Tally {
     let mut tables = tables.clone();
     let mut tally = Tally {
@@ -77,12 +84,8 @@ pub fn every_flip(tables: &Tables) -> Tally {
         accepted: 0,
         wrong: 0,
     };
-    for table in 0..NAMES.len() {
-        for place in 0..tables.0[table].len() {
-            for bit in 0..u64::BITS {
-                count(Flip { table, place, bit }, &mut tables, &mut tally);
-            }
-        }
+    for flip in Flip::all(&tables) {
+        count(flip, &mut tables, &mut tally);
     }
     tally
 }
@@ -93,7 +96,7 @@ fn count(flip: Flip, tables: &mut Tables, tally: &mut Tally) {
     let answer = viterbi(&tables.lend(), &[], &mut [], &mut [], &mut []);
     let named = Refused {
         refusal: Refusal::NotGood,
-        table: flip.table as u8,
+        table: Some(Table::from_number(flip.table as u8)),
         place: flip.place,
     };
     match (answer, good(flip, tables)) {

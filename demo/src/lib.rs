@@ -3,6 +3,7 @@
 
 #![forbid(unsafe_code)]
 
+pub mod consequences;
 pub mod decode;
 pub mod figures;
 pub mod flip;

@@ -12,6 +12,7 @@ pub const SHAPE: Shape = Shape {
 /// The numbers of the tables as they are lent, and their names.
 pub const TRANSITION: usize = 0;
 pub const EMISSION: usize = 1;
+pub const INITIAL: usize = 2;
 pub const END: usize = 3;
 pub const NAMES: [&str; 4] = ["transition", "emission", "initial", "end"];
 

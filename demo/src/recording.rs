@@ -4,6 +4,9 @@
 /// Six seconds, the longest passage of a gate.
 pub const LONGEST: usize = 240;
 
+/// What some editors write before the first line.
+const BYTE_ORDER_MARK: char = '\u{feff}';
+
 #[derive(Debug, PartialEq, Eq)]
 pub struct Passage {
     pub clock: String,
@@ -12,11 +15,18 @@ pub struct Passage {
     pub note: String,
 }
 
+/// The passages; else which line is wrong, and why. A recording without a passage is wrong where one is missing.
 pub fn read(text: &str) -> Result<Vec<Passage>, String> {
-    let lines = text.lines().enumerate();
-    let full = lines.filter(|(_, line)| !line.is_empty() && !line.starts_with('#'));
-    full.map(|(at, line)| passage(line).map_err(|why| format!("line {}: {why}", at + 1)))
-        .collect()
+    let mut passages = Vec::new();
+    for (number, line) in (1..).zip(text.lines()) {
+        if !line.is_empty() && !line.starts_with('#') {
+            passages.push(passage(line).map_err(|why| format!("line {number}: {why}"))?);
+        }
+    }
+    if passages.is_empty() {
+        return Err(format!("line {}: a passage is wanted", text.lines().count() + 1));
+    }
+    Ok(passages)
 }
 
 pub fn caption(text: &str) -> &str {
@@ -31,10 +41,20 @@ pub fn write(passages: &[Passage]) -> String {
 }
 
 fn passage(line: &str) -> Result<Passage, String> {
+    if line.starts_with(BYTE_ORDER_MARK) {
+        return Err("a byte order mark, and a recording has none".to_string());
+    }
     let mut fields = line.splitn(3, ' ');
     let (Some(clock), Some(bytes)) = (fields.next(), fields.next()) else {
         return Err("a clock time and bytes are wanted".to_string());
     };
+    if !is_clock_time(clock) {
+        return Err(format!("{clock:?} is no clock time"));
+    }
+    let note = fields.next().unwrap_or("unknown");
+    if bytes.is_empty() || note.is_empty() || note.starts_with(' ') {
+        return Err("a blank too many".to_string());
+    }
     let samples = samples(bytes)?;
     if samples.len() > LONGEST {
         return Err(format!("{} bytes, and a passage has at most {LONGEST}", samples.len()));
@@ -42,29 +62,25 @@ fn passage(line: &str) -> Result<Passage, String> {
     Ok(Passage {
         clock: clock.to_string(),
         samples,
-        note: fields.next().unwrap_or("unknown").to_string(),
+        note: note.to_string(),
     })
 }
 
-fn samples(bytes: &str) -> Result<Vec<u16>, String> {
-    if bytes.len() % 2 == 1 {
-        return Err("half a byte at the end".to_string());
-    }
-    bytes.as_bytes().chunks(2).map(byte).collect()
+/// Whether this is a time of day, as 07:58:04.
+fn is_clock_time(clock: &str) -> bool {
+    let is_number = |part: &&str| part.len() == 2 && part.bytes().all(|digit| digit.is_ascii_digit());
+    let parts: Vec<&str> = clock.split(':').filter(is_number).collect();
+    let is_time = |[hours, minutes, seconds]: [&str; 3]| hours < "24" && minutes < "60" && seconds < "60";
+    clock.len() == 8 && parts.try_into().is_ok_and(is_time)
 }
 
-fn byte(digits: &[u8]) -> Result<u16, String> {
-    let values: Vec<u32> = digits
-        .iter()
-        .filter_map(|digit| char::from(*digit).to_digit(16))
-        .collect();
-    match values[..] {
-        [high, low] => Ok((high * 16 + low) as u16),
-        _ => Err(format!(
-            "{:?} is no byte in hexadecimal",
-            String::from_utf8_lossy(digits)
-        )),
+fn samples(bytes: &str) -> Result<Vec<u16>, String> {
+    let digit = |letter: char| letter.to_digit(16).ok_or(format!("{letter:?} is no hexadecimal digit"));
+    let digits: Vec<u32> = bytes.chars().map(digit).collect::<Result<_, String>>()?;
+    if digits.len() % 2 == 1 {
+        return Err("half a byte at the end".to_string());
     }
+    Ok(digits.chunks(2).map(|byte| (byte[0] * 16 + byte[1]) as u16).collect())
 }
 
 fn line(passage: &Passage) -> String {
@@ -91,23 +107,42 @@ mod tests {
 
     #[test]
     fn faults_name_their_line() {
-        assert_eq!(
-            read("# note\n\n07:58:04").unwrap_err(),
-            "line 3: a clock time and bytes are wanted"
-        );
-        assert_eq!(
-            read("07:58:04 +1 x").unwrap_err(),
-            "line 1: \"+1\" is no byte in hexadecimal"
-        );
-        assert_eq!(
-            read("07:58:04 0g x").unwrap_err(),
-            "line 1: \"0g\" is no byte in hexadecimal"
-        );
-        assert_eq!(read("07:58:04 012 x").unwrap_err(), "line 1: half a byte at the end");
         let long = format!("07:58:04 {}", "00".repeat(LONGEST + 1));
-        assert_eq!(
-            read(&long).unwrap_err(),
-            "line 1: 241 bytes, and a passage has at most 240"
-        );
+        let faults = [
+            ("# note\n\n07:58:04", "line 3: a clock time and bytes are wanted"),
+            ("", "line 1: a passage is wanted"),
+            ("# note\n\n", "line 3: a passage is wanted"),
+            (
+                "\u{feff}07:58:04 00 x",
+                "line 1: a byte order mark, and a recording has none",
+            ),
+            (
+                "\u{feff}# note\n07:58:04 00 x",
+                "line 1: a byte order mark, and a recording has none",
+            ),
+            ("hello 00 x", "line 1: \"hello\" is no clock time"),
+            ("07:58:04 00\n24:00:00 00", "line 2: \"24:00:00\" is no clock time"),
+            ("07:60:00 00", "line 1: \"07:60:00\" is no clock time"),
+            ("7:58:04 00", "line 1: \"7:58:04\" is no clock time"),
+            ("07:58:+4 00", "line 1: \"07:58:+4\" is no clock time"),
+            (" 07:58:04 00", "line 1: \"\" is no clock time"),
+            ("07:58:04\t00", "line 1: a clock time and bytes are wanted"),
+            ("07:58:04  00 x", "line 1: a blank too many"),
+            ("07:58:04 00  x", "line 1: a blank too many"),
+            ("07:58:04 00 ", "line 1: a blank too many"),
+            ("07:58:04 +1 x", "line 1: '+' is no hexadecimal digit"),
+            ("07:58:04 0g x", "line 1: 'g' is no hexadecimal digit"),
+            ("07:58:04 hello", "line 1: 'h' is no hexadecimal digit"),
+            ("07:58:04 012 x", "line 1: half a byte at the end"),
+            (&long, "line 1: 241 bytes, and a passage has at most 240"),
+        ];
+        for (text, why) in faults {
+            assert_eq!(read(text).unwrap_err(), why, "{text:?}");
+        }
+    }
+
+    #[test]
+    fn lines_may_end_as_windows_ends_them() {
+        assert_eq!(read("07:58:04 00ff x\r\n").unwrap()[0].note, "x");
     }
 }

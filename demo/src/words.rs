@@ -3,10 +3,13 @@
 use crate::decode::runs;
 use crate::flip::{Flip, Outcome};
 use crate::model::{columns, EMISSION, NAMES, TRANSITION};
-use crate::states::{Fare, ALL, BARRIERS};
+use crate::states::{Fare, ALL, BARRIERS, HEIGHTS};
 
-/// A row of states in run lengths.
+/// A row of states in run lengths; an empty one stands for samples that no row explains.
 pub fn row(row: &[u8]) -> String {
+    if row.is_empty() {
+        return "none explains the samples".to_string();
+    }
     let runs = runs(row);
     let words = runs.iter().map(|run| format!("{}×{}", ALL[run.state].name, run.length));
     words.collect::<Vec<String>>().join(" ")
@@ -18,6 +21,20 @@ pub fn fares(fares: &[Fare]) -> String {
     }
     let names: Vec<&str> = fares.iter().map(|fare| fare.name()).collect();
     names.join(" + ")
+}
+
+/// A barrier by its number and its height above the ground.
+pub fn barrier(barrier: usize) -> String {
+    let height = HEIGHTS[barrier];
+    format!("{barrier}: {}.{:02} m", height / 1000, height / 10 % 100)
+}
+
+/// At most so many letters, the last of them three dots where more were cut off.
+pub fn cut(words: &str, most: usize) -> String {
+    if words.chars().count() <= most {
+        return words.to_string();
+    }
+    words.chars().take(most - 1).chain(['…']).collect()
 }
 
 /// A whole number with a comma before every three digits.
@@ -51,7 +68,10 @@ pub fn answer(outcome: &Outcome) -> String {
     let Some(refused) = outcome.refused else {
         return "decoded".to_string();
     };
-    let (number, table) = (refused.refusal.number(), usize::from(refused.table));
+    let Some(table) = refused.table.map(|table| usize::from(table.number())) else {
+        return refused.to_string();
+    };
+    let number = refused.refusal.number();
     let place = place(table, refused.place);
     format!(
         "refusal {number}, table {table} ({}), place {}: {place}",
@@ -79,10 +99,28 @@ mod tests {
     }
 
     #[test]
+    fn barriers_have_a_number_and_a_height() {
+        assert_eq!(barrier(0), "0: 0.08 m");
+        assert_eq!(barrier(7), "7: 1.85 m");
+    }
+
+    #[test]
+    fn long_words_are_cut() {
+        assert_eq!(cut("schön", 5), "schön");
+        assert_eq!(cut("schöner", 5), "schö…");
+    }
+
+    #[test]
     fn places_have_a_row_and_a_column() {
         assert_eq!(place(0, 13), "row 1 (child-step), column 1 (child-step)");
         assert_eq!(place(1, 1151), "row 4 (adult), column 127 (01111111)");
         assert_eq!(place(2, 11), "column 11 (dog)");
+    }
+
+    #[test]
+    fn an_empty_row_says_what_it_is() {
+        assert_eq!(row(&[0, 0, 4]), "empty×2 adult×1");
+        assert_eq!(row(&[]), "none explains the samples");
     }
 
     #[test]

@@ -1,5 +1,8 @@
-//! Takes bio's text from the folder of published sources, makes the edits below, and writes one module for each mode.
-//! Nothing of bio's text is kept in the repository.
+//! Takes bio's text from its published sources, makes the edits below, and writes one module for each mode. Nothing of
+//! bio's text is kept in the repository.
+//!
+//! The sources are those of an ordinary crate folder (`src/stats/hmm/mod.rs`), or the same files in one flat folder
+//! (`src--src--stats--hmm--mod.rs.txt`).
 
 use std::path::{Path, PathBuf};
 use std::{env, fs};
@@ -11,12 +14,14 @@ struct Edit {
     new: &'static str,
 }
 
-const HMM: &str = "stats--hmm--mod.rs";
-const PROBS: &str = "stats--probs--mod.rs";
+const VERSION: &str = "4.2.2";
+
+const HMM: &str = "stats/hmm/mod.rs";
+const PROBS: &str = "stats/probs/mod.rs";
 
 /// What every mode needs to compile as a module of this crate, and to show both tables of Viterbi.
 const EDITS: &[Edit] = &[
-    // Integration and distribution functions are outside the port, and their files are not at hand.
+    // Integration and distribution functions are outside the port.
     Edit {
         file: PROBS,
         old: "pub mod adaptive_integration;\npub mod cdf;\n",
@@ -67,21 +72,17 @@ const KERNEL_EDITS: &[Edit] = &[
 /// The published files that are taken, and their places under a mode's folder.
 const FILES: &[(&str, &str)] = &[
     (HMM, "hmm/mod.rs"),
-    ("stats--hmm--errors.rs", "hmm/errors.rs"),
+    ("stats/hmm/errors.rs", "hmm/errors.rs"),
     (PROBS, "probs/mod.rs"),
-    ("stats--probs--errors.rs", "probs/errors.rs"),
-    ("utils--fastexp.rs", "fastexp.rs"),
+    ("stats/probs/errors.rs", "probs/errors.rs"),
+    ("utils/fastexp.rs", "fastexp.rs"),
 ];
 
 fn main() {
     println!("cargo::rustc-check-cfg=cfg(bio)");
     println!("cargo::rerun-if-env-changed=BIO_SOURCE");
     println!("cargo::rerun-if-changed=build.rs");
-    let source = source_folder();
-    println!("cargo::rerun-if-changed={}", source.display());
-    if !FILES.iter().all(|(name, _)| published(&source, name).is_file()) {
-        return;
-    }
+    let Some(source) = source() else { return };
     println!("cargo::rustc-cfg=bio");
     write_mode(&source, "published", "", &[]);
     write_mode(
@@ -98,25 +99,80 @@ fn main() {
     );
 }
 
-/// The folder of published sources: beside the repository, unless `BIO_SOURCE` names another.
-fn source_folder() -> PathBuf {
-    match env::var_os("BIO_SOURCE") {
-        Some(folder) => PathBuf::from(folder),
-        None => Path::new(&env::var_os("CARGO_MANIFEST_DIR").unwrap()).join("../../../shared/docs/src"),
+/// The folder that `BIO_SOURCE` names, which must have the files; else the first of cargo's own that has them.
+fn source() -> Option<Source> {
+    if let Some(folder) = env::var_os("BIO_SOURCE").map(PathBuf::from) {
+        let source = Source::of(&folder);
+        if source.is_none() {
+            let folder = folder.display();
+            println!("cargo::error=BIO_SOURCE: {folder} has no sources of bio {VERSION}");
+        }
+        return source;
     }
+    registry().iter().find_map(|folder| Source::of(folder))
 }
 
-fn published(source: &Path, name: &str) -> PathBuf {
-    source.join(format!("src--src--{name}.txt"))
+/// Where cargo unpacks a crate that was once built on this machine.
+fn registry() -> Vec<PathBuf> {
+    let own = env::var_os("CARGO_HOME").map(PathBuf::from);
+    let usual = env::var_os("HOME").map(|home| Path::new(&home).join(".cargo"));
+    let Some(Ok(registries)) = own.or(usual).map(|home| fs::read_dir(home.join("registry/src"))) else {
+        return Vec::new();
+    };
+    let folder = format!("bio-{VERSION}");
+    registries
+        .flatten()
+        .map(|registry| registry.path().join(&folder))
+        .collect()
+}
+
+/// A folder that has all the files, in one of the two layouts.
+struct Source {
+    folder: PathBuf,
+    flat: bool,
+}
+
+impl Source {
+    fn of(folder: &Path) -> Option<Source> {
+        let layouts = [true, false].map(|flat| Source {
+            folder: folder.to_path_buf(),
+            flat,
+        });
+        layouts.into_iter().find(Source::is_whole)
+    }
+
+    fn is_whole(&self) -> bool {
+        self.is_right_version() && FILES.iter().all(|(name, _)| self.path(name).is_file())
+    }
+
+    /// A crate folder says its version; a flat one has nothing to say it with.
+    fn is_right_version(&self) -> bool {
+        let manifest = fs::read_to_string(self.folder.join("Cargo.toml")).unwrap_or_default();
+        self.flat || manifest.contains(&format!("\nversion = \"{VERSION}\"\n"))
+    }
+
+    fn path(&self, name: &str) -> PathBuf {
+        if self.flat {
+            self.folder.join(format!("src--src--{}.txt", name.replace('/', "--")))
+        } else {
+            self.folder.join("src").join(name)
+        }
+    }
+
+    fn text(&self, name: &str) -> String {
+        let path = self.path(name);
+        println!("cargo::rerun-if-changed={}", path.display());
+        fs::read_to_string(path).unwrap()
+    }
 }
 
 /// Writes the files of one mode, and the file of modules that the crate includes. The exponential is bio's own where
 /// no other is given.
-fn write_mode(source: &Path, mode: &str, exponential: &str, edits: &[Edit]) {
+fn write_mode(source: &Source, mode: &str, exponential: &str, edits: &[Edit]) {
     let out = PathBuf::from(env::var_os("OUT_DIR").unwrap());
     let folder = out.join(mode);
     for (name, place) in FILES {
-        let mut text = fs::read_to_string(published(source, name)).unwrap();
+        let mut text = source.text(name);
         for edit in EDITS.iter().chain(edits).filter(|edit| edit.file == *name) {
             text = edited(&text, edit);
         }

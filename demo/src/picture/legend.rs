@@ -1,17 +1,18 @@
 //! The model at a glance: for each state its colour, its name, and how often it breaks each barrier.
 
 use super::svg::{rectangle, text, Anchor};
-use crate::states::{State, ALL, BARRIERS, HEIGHTS};
+use crate::states::{State, ALL, BARRIERS};
+use crate::words;
 
 pub const HEIGHT: usize = BARRIERS * CELL + 46;
 
 const CELL: usize = 14;
-const LABELS: usize = 62;
-const PITCH: usize = 89;
-const WIDE: usize = 76;
+const LABELS: usize = 78;
+const PITCH: usize = 93;
+const WIDE: usize = 80;
 
 pub fn legend(left: usize, top: usize) -> String {
-    let labels = (0..BARRIERS).map(|barrier| height(left, top + below(barrier), barrier));
+    let labels = (0..BARRIERS).map(|barrier| label(left, top + below(barrier), barrier));
     let states = ALL
         .iter()
         .enumerate()
@@ -24,9 +25,14 @@ fn below(barrier: usize) -> usize {
     (BARRIERS - 1 - barrier) * CELL
 }
 
-fn height(left: usize, top: usize, barrier: usize) -> String {
-    let words = format!("{}.{:02} m", HEIGHTS[barrier] / 1000, HEIGHTS[barrier] / 10 % 100);
-    text(left + LABELS - 12, top + CELL - 3, "small", Anchor::End, &words)
+fn label(left: usize, top: usize, barrier: usize) -> String {
+    text(
+        left + LABELS - 12,
+        top + CELL - 3,
+        "small",
+        Anchor::End,
+        &words::barrier(barrier),
+    )
 }
 
 fn column(left: usize, top: usize, state: &State) -> String {

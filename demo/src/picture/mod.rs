@@ -8,11 +8,11 @@ mod svg;
 use crate::morning::Morning;
 use svg::{text, Anchor};
 
-const WIDTH: usize = 1200;
+const WIDTH: usize = 2 * MARGIN + COLUMN + passage_panel::WIDTH;
 const MARGIN: usize = 36;
 const LEGEND_TOP: usize = 134;
 const PASSAGES_TOP: usize = LEGEND_TOP + legend::HEIGHT + 34;
-const COLUMN: usize = 588;
+const COLUMN: usize = passage_panel::WIDTH + 32;
 
 const STYLE: &str = "\
 text{font-family:Helvetica,Arial,'DejaVu Sans',sans-serif;font-size:14px;fill:#1c2430}\
@@ -20,6 +20,7 @@ text{font-family:Helvetica,Arial,'DejaVu Sans',sans-serif;font-size:14px;fill:#1
 .strong{font-weight:bold}\
 .soft{fill:#5b6675}\
 .small{font-size:12px;fill:#5b6675}\
+.tiny{font-size:10px;fill:#5b6675}\
 .broken{stroke:#1c2430;stroke-width:.84;fill:none}";
 
 /// The picture as the text of an SVG file.

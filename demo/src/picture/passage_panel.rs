@@ -6,34 +6,66 @@ use crate::recording::{Passage, LONGEST};
 use crate::states::{ALL, BARRIERS};
 use crate::words;
 
-pub const PITCH: usize = 130;
+pub const PITCH: usize = 156;
+pub const WIDTH: usize = LABELS + LONGEST * 11 / 5;
 
-/// A sample is 2.25 wide and a barrier 6 high.
-const ACROSS: &str = "2.25";
-const DOWN: &str = "6";
-const WIDTH: usize = LONGEST * 9 / 4;
+/// A sample is 2.2 wide and a barrier 7 high. The barriers' labels stand before them, the seconds' below.
+const ACROSS: &str = "2.2";
+const DOWN: &str = "7";
+const LABELS: usize = 54;
 const HEADING: usize = 16;
 const BARS: usize = 24;
-const BAND: usize = BARS + BARRIERS * 6 + 2;
+const BAND: usize = BARS + BARRIERS * 7 + 2;
 const BAND_HEIGHT: usize = 14;
-const FOOT: usize = BAND + BAND_HEIGHT + 18;
+const TIMES: usize = BAND + BAND_HEIGHT + 11;
+const FOOT: usize = TIMES + 19;
+/// In samples, and as wide as they are.
 const SECOND: usize = 40;
+const SECOND_WIDTH: usize = SECOND * 11 / 5;
+/// How many letters have room: of a note beside the clock, of fares beside the value.
+const NOTE: usize = 54;
+const FARE: usize = 38;
 
 pub fn panel(left: usize, top: usize, number: usize, passage: &Passage, decoded: &Decoded) -> String {
     let start = |x, y, class, words: &str| text(left + x, top + y, class, Anchor::Start, words);
     let fare = format!("fare: {}", words::fares(&fares(&decoded.row)));
-    let value = format!("value {:.3}", decoded.value);
     [
         start(0, HEADING, "strong", &number.to_string()),
         start(28, HEADING, "soft", &passage.clock),
-        start(104, HEADING, "", &passage.note),
-        scaled(left, top + BARS, ACROSS, DOWN, &bars(&passage.samples)),
-        scaled(left, top + BAND, ACROSS, "1", &band(&decoded.row)),
-        start(0, FOOT, "strong", &fare),
-        text(left + WIDTH, top + FOOT, "soft", Anchor::End, &value),
+        start(104, HEADING, "", &words::cut(&passage.note, NOTE)),
+        barrier_labels(left + LABELS, top + BARS),
+        scaled(left + LABELS, top + BARS, ACROSS, DOWN, &bars(&passage.samples)),
+        states(left + LABELS, top + BAND, &decoded.row),
+        second_labels(left + LABELS, top + TIMES, passage.samples.len()),
+        start(0, FOOT, "strong", &words::cut(&fare, FARE)),
+        text(left + WIDTH, top + FOOT, "small", Anchor::End, &value(passage, decoded)),
         rectangle(left, top + FOOT + 9, WIDTH, 1, "#d5dae0"),
     ]
     .concat()
+}
+
+/// The longer the passage, the lower its value: two passages are compared by their values a sample.
+fn value(passage: &Passage, decoded: &Decoded) -> String {
+    let each = decoded.value / passage.samples.len() as f64;
+    format!("value {:.3}, {each:.3} a sample", decoded.value)
+}
+
+/// Every second barrier by its number and height, the highest at the top.
+fn barrier_labels(right: usize, top: usize) -> String {
+    let labelled = (0..BARRIERS).rev().step_by(2);
+    let label = |barrier: usize| {
+        let y = top + (BARRIERS - 1 - barrier) * 7 + 7;
+        text(right - 6, y, "tiny", Anchor::End, &words::barrier(barrier))
+    };
+    labelled.map(label).collect()
+}
+
+fn second_labels(left: usize, y: usize, samples: usize) -> String {
+    let label = |second: usize| {
+        let words = format!("{second} s");
+        text(left + second * SECOND_WIDTH, y, "tiny", Anchor::Middle, &words)
+    };
+    (0..samples.div_ceil(SECOND)).map(label).collect()
 }
 
 /// The ground, a white line each second, and a stroke wherever a barrier is broken; the highest barrier at the top.
@@ -56,6 +88,14 @@ fn strokes(samples: &[u16], barrier: usize) -> String {
         at += run.len();
     }
     steps
+}
+
+/// A band in the states' colours, or a word that there is none.
+fn states(left: usize, top: usize, row: &[u8]) -> String {
+    if row.is_empty() {
+        return text(left, top + 11, "small", Anchor::Start, &words::row(row));
+    }
+    scaled(left, top, ACROSS, "1", &band(row))
 }
 
 fn band(row: &[u8]) -> String {

@@ -42,14 +42,18 @@ impl Rivals<'_> {
     /// Times the rivals and prints a line; each does so many calls in a run.
     pub fn print(self, name: &str, calls: usize) {
         let times = self.times();
+        let absent = || "-".to_string();
+        let nanoseconds =
+            |time: Option<f64>| time.map_or_else(absent, |time| format!("{:.0}", time * 1e9 / calls as f64));
         let ratio = |over: Option<f64>, under: Option<f64>| match (over, under) {
             (Some(over), Some(under)) => format!("{:.2}", over / under),
-            _ => "-".to_string(),
+            _ => absent(),
         };
         let plain = Some(times.plain);
         println!(
-            "{name:<28} {:>14.0} {:>15} {:>13} {:>12}",
-            times.plain * 1e9 / calls as f64,
+            "{name:<28} {:>12} {:>14} {:>15} {:>13} {:>12}",
+            nanoseconds(times.library),
+            nanoseconds(plain),
             ratio(times.library, plain),
             ratio(times.library, times.bio),
             ratio(times.bio, plain)
@@ -79,7 +83,7 @@ fn turn(rival: &mut Rival) -> f64 {
 
 pub fn print_heading(title: &str) {
     println!(
-        "\n{title:<28} {:>14} {:>15} {:>13} {:>12}",
-        "plain Rust, ns", "library / plain", "library / bio", "bio / plain"
+        "\n{title:<28} {:>12} {:>14} {:>15} {:>13} {:>12}",
+        "library, ns", "plain Rust, ns", "library / plain", "library / bio", "bio / plain"
     );
 }

@@ -1,8 +1,8 @@
-//! `bench`: the time of each call of the proved library against plain Rust over flat arrays and against bio as
-//! published, in one run, as ratios; and how the time grows with the states and the samples.
+//! `bench`: the time of each call of the proved library, and against plain Rust over flat arrays and bio as published, in
+//! one run, as ratios; and how the time grows with the states and the samples.
 //!
 //! Plain Rust is the independent reference, with the same rules, kernels and checks. Its exp is shaped for speed but where
-//! a heading says that it is the loop as the rules read. The library and plain Rust count their checks; bio makes none,
+//! a heading says that it is the loop as RULES 4.1 reads. The library and plain Rust count their checks; bio makes none,
 //! and allocates what it returns.
 
 mod contest;
@@ -14,6 +14,7 @@ use compare::lent::{Call, CALLS};
 use contest::print_heading;
 
 fn main() {
+    println!("{}", processor());
     print_heading("one passage");
     for call in CALLS {
         walks::contest(REFERENCE, call, 12, 240);
@@ -37,4 +38,12 @@ fn main() {
     }
     print_heading("leaves, each call");
     leaves::contest();
+}
+
+/// The processor's name, as Linux gives it.
+fn processor() -> String {
+    let facts = std::fs::read_to_string("/proc/cpuinfo").unwrap_or_default();
+    let line = facts.lines().find(|line| line.starts_with("model name"));
+    let name = line.and_then(|line| line.split(": ").nth(1));
+    name.unwrap_or("a processor without a name").to_string()
 }

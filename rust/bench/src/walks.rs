@@ -10,7 +10,7 @@ use reference::likelihood::{backward_as_written, forward_as_written};
 use reference::Answer;
 use std::hint::black_box;
 
-/// The reference with the exp that is a loop as the rules read, for the two calls that have it.
+/// The reference with the exp that is a loop as RULES 4.1 reads, for the two calls that have it.
 pub const AS_WRITTEN: Engine = Engine {
     call: as_written,
     ..REFERENCE

@@ -66,14 +66,14 @@ impl Comparison {
 
     fn say_what_is_there(&self) {
         match self.modes {
-            Some(_) => println!("bio 4.2.2: taken from the folder of published sources"),
+            Some(_) => println!("bio 4.2.2: taken from its published sources"),
             None => {
                 println!("bio 4.2.2: not found (BIO_SOURCE names its folder); the independent reference stands alone")
             }
         }
         match self.library {
             Some(_) => println!("proved library: linked"),
-            None => println!("proved library: not built (rt staticlib wasnugram); not compared"),
+            None => println!("proved library: left out of this build; not compared"),
         }
     }
 
@@ -107,7 +107,7 @@ impl Comparison {
         }
     }
 
-    /// Every call on lent memory: the reference by the rules on memory, and the library against it.
+    /// Every call on lent memory: the reference by RULES 3.4, and the library against it.
     fn lent(&mut self, case: &Case) {
         for call in CALLS {
             let pattern = self.random.bits();

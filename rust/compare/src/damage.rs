@@ -3,6 +3,10 @@
 use crate::case::Case;
 use crate::lent::{Call, Output};
 use crate::random::Random;
+use reference::answer::{
+    BAD_STATES, BAD_SYMBOLS, FIRST_OUTPUT, NOT_GOOD, NO_SAMPLES, OUTPUT_TOO_SHORT, SAMPLES, TOO_MANY_SAMPLES,
+    UNKNOWN_SYMBOL, WRONG_LENGTH,
+};
 
 /// The refusal, the table and the place that some damage leads to. Of several, the least in this order wins.
 pub type Named = (u8, u8, usize);
@@ -21,6 +25,21 @@ impl Damaged {
             outputs[*place].truncate(*length);
         }
     }
+}
+
+/// The refusals that damage leads to in a call, but for too many samples, which only very long rows lead to.
+pub fn refusals(call: Call) -> impl Iterator<Item = u8> {
+    let all = [
+        BAD_STATES,
+        BAD_SYMBOLS,
+        NO_SAMPLES,
+        WRONG_LENGTH,
+        OUTPUT_TOO_SHORT,
+        NOT_GOOD,
+        UNKNOWN_SYMBOL,
+    ];
+    all.into_iter()
+        .filter(move |refusal| *refusal != NO_SAMPLES || call.needs_samples())
 }
 
 /// Damage of one kind to a case with samples.
@@ -49,47 +68,47 @@ pub fn damaged(call: Call, case: &Case, random: &mut Random) -> Option<Damaged> 
     let mut refusals: Vec<u8> = (0..kinds).map(|_| 1 + random.below(8) as u8).collect();
     // Entries before lengths before sizes, so that each kind finds what it damages; a length is damaged once.
     refusals.sort_unstable_by(|a, b| b.cmp(a));
-    refusals.dedup_by(|a, b| a == b && *a < 7);
+    refusals.dedup_by(|a, b| a == b && *a < NOT_GOOD);
     for refusal in refusals {
         if let Some(named) = damage(refusal, call, &mut damaged, random) {
             damaged.named = damaged.named.min(named);
         }
     }
     if call.needs_samples() && damaged.case.samples.is_empty() {
-        damaged.named = damaged.named.min((4, 4, 0));
+        damaged.named = damaged.named.min((NO_SAMPLES, SAMPLES, 0));
     }
     (damaged.named.0 != u8::MAX).then_some(damaged)
 }
 
 fn damage(refusal: u8, call: Call, damaged: &mut Damaged, random: &mut Random) -> Option<Named> {
     match refusal {
-        1 => Some(states(damaged, random)),
-        2 => Some(symbols(damaged, random)),
-        3 => Some(too_many_samples(damaged, random)),
-        4 => no_samples(call, damaged),
-        5 => Some(table_length(damaged, random)),
-        6 => output_length(call, damaged, random),
-        7 => Some(not_good(damaged, random)),
-        _ => sample(damaged, random),
+        BAD_STATES => Some(bad_states(damaged, random)),
+        BAD_SYMBOLS => Some(bad_symbols(damaged, random)),
+        TOO_MANY_SAMPLES => Some(too_many_samples(damaged, random)),
+        NO_SAMPLES => no_samples(call, damaged),
+        WRONG_LENGTH => Some(wrong_length(damaged, random)),
+        OUTPUT_TOO_SHORT => output_too_short(call, damaged, random),
+        NOT_GOOD => Some(not_good(damaged, random)),
+        _ => unknown_symbol(damaged, random),
     }
 }
 
-fn states(damaged: &mut Damaged, random: &mut Random) -> Named {
+fn bad_states(damaged: &mut Damaged, random: &mut Random) -> Named {
     let states = random.pick(&[0, 65, 66, 255, 256, 1 << 32, usize::MAX]);
     damaged.case.shape.states = states;
-    (1, 0, states)
+    (BAD_STATES, 0, states)
 }
 
-fn symbols(damaged: &mut Damaged, random: &mut Random) -> Named {
+fn bad_symbols(damaged: &mut Damaged, random: &mut Random) -> Named {
     let symbols = random.pick(&[0, 257, 258, 65_536, usize::MAX]);
     damaged.case.shape.symbols = symbols;
-    (2, 0, symbols)
+    (BAD_SYMBOLS, 0, symbols)
 }
 
 fn too_many_samples(damaged: &mut Damaged, random: &mut Random) -> Named {
     let length = random.pick(&[4097, 4098, 8192, 65_536]);
     damaged.case.samples.resize(length, 0);
-    (3, 4, length)
+    (TOO_MANY_SAMPLES, SAMPLES, length)
 }
 
 fn no_samples(call: Call, damaged: &mut Damaged) -> Option<Named> {
@@ -97,10 +116,10 @@ fn no_samples(call: Call, damaged: &mut Damaged) -> Option<Named> {
         return None;
     }
     damaged.case.samples.clear();
-    Some((4, 4, 0))
+    Some((NO_SAMPLES, SAMPLES, 0))
 }
 
-fn table_length(damaged: &mut Damaged, random: &mut Random) -> Named {
+fn wrong_length(damaged: &mut Damaged, random: &mut Random) -> Named {
     let table = random.below(4);
     let entries = &mut *damaged.case.tables_mut()[table];
     let length = match random.below(3) {
@@ -109,10 +128,10 @@ fn table_length(damaged: &mut Damaged, random: &mut Random) -> Named {
         _ => entries.len() + 1,
     };
     entries.resize(length, 0.0);
-    (5, table as u8, length)
+    (WRONG_LENGTH, table as u8, length)
 }
 
-fn output_length(call: Call, damaged: &mut Damaged, random: &mut Random) -> Option<Named> {
+fn output_too_short(call: Call, damaged: &mut Damaged, random: &mut Random) -> Option<Named> {
     let needed = call.needed(&damaged.case);
     let place = random.below(needed.len());
     let length = match random.below(3) {
@@ -122,7 +141,7 @@ fn output_length(call: Call, damaged: &mut Damaged, random: &mut Random) -> Opti
     };
     (length < needed[place]).then(|| {
         damaged.cuts.push((place, length));
-        (6, 5 + place as u8, length)
+        (OUTPUT_TOO_SHORT, FIRST_OUTPUT + place as u8, length)
     })
 }
 
@@ -137,10 +156,10 @@ fn not_good(damaged: &mut Damaged, random: &mut Random) -> Named {
     let entries = &mut *damaged.case.tables_mut()[table];
     let place = random.below(entries.len());
     entries[place] = bad;
-    (7, table as u8, place)
+    (NOT_GOOD, table as u8, place)
 }
 
-fn sample(damaged: &mut Damaged, random: &mut Random) -> Option<Named> {
+fn unknown_symbol(damaged: &mut Damaged, random: &mut Random) -> Option<Named> {
     let symbols = damaged.case.shape.symbols as u16;
     let samples = &mut damaged.case.samples;
     if samples.is_empty() {
@@ -148,5 +167,5 @@ fn sample(damaged: &mut Damaged, random: &mut Random) -> Option<Named> {
     }
     let place = random.below(samples.len());
     samples[place] = random.pick(&[symbols, symbols + 1, u16::MAX]);
-    Some((8, 4, place))
+    Some((UNKNOWN_SYMBOL, SAMPLES, place))
 }

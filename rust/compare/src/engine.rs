@@ -1,6 +1,6 @@
-//! Who answers the calls: the reference, and the proved library where it is linked.
+//! Who answers the calls: the reference, and the proved library, unless this is built without it.
 
-#[cfg(proved)]
+#[cfg(feature = "library")]
 mod proved;
 
 use crate::case::Case;
@@ -47,14 +47,14 @@ pub const REFERENCE: Engine = Engine {
     },
 };
 
-/// The proved library; none where it is not linked.
-#[cfg(proved)]
+/// The proved library; none where this is built without it.
+#[cfg(feature = "library")]
 pub fn library() -> Option<Engine> {
     Some(proved::LIBRARY)
 }
 
-/// The proved library; none where it is not linked.
-#[cfg(not(proved))]
+/// The proved library; none where this is built without it.
+#[cfg(not(feature = "library"))]
 pub fn library() -> Option<Engine> {
     None
 }
@@ -80,10 +80,10 @@ fn estimates(outputs: &mut [Output]) -> Estimates<'_> {
     });
     let mut next = || numbers.next().expect("a pass has six outputs");
     Estimates {
-        transition: next(),
-        emission: next(),
-        initial: next(),
-        end: next(),
+        new_transition: next(),
+        new_emission: next(),
+        new_initial: next(),
+        new_end: next(),
         alpha: next(),
         beta: next(),
     }

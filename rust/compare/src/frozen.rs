@@ -3,7 +3,7 @@
 //! Words are little-endian. The first word is the number of cases. A case is the number of its words that follow, the
 //! number of its call, the answer (refusal, table, place, the bits of the value), and its lists; a list is its length
 //! and its elements, one to a word: whole numbers as they are, f64 by their bits. FROZEN.md says which lists each call
-//! has.
+//! has, and how an altered case is marked.
 
 use crate::case::Case;
 use crate::lent::{Call, Output};
@@ -77,6 +77,39 @@ impl Frozen {
             call: call as u64,
             answer: answer_words(answer),
             lists,
+        }
+    }
+
+    /// Copies of the case, each marked as altered and with one fault: one bit of a word of the answer or of the first or
+    /// last place of an output, the lowest or the highest, is another, or there is a list too many.
+    pub fn altered(&self) -> Vec<Frozen> {
+        let mut marked = self.clone();
+        marked.call += NAMES.len() as u64;
+        let mut cases = vec![marked.clone()];
+        cases[0].lists.push(Vec::new());
+        for bit in [1, 1 << 63] {
+            for word in 0..self.answer.len() {
+                let mut case = marked.clone();
+                case.answer[word] ^= bit;
+                cases.push(case);
+            }
+            for list in self.inputs()..self.lists.len() {
+                for place in [0, self.lists[list].len() - 1] {
+                    let mut case = marked.clone();
+                    case.lists[list][place] ^= bit;
+                    cases.push(case);
+                }
+            }
+        }
+        cases
+    }
+
+    /// How many of the lists are what the call reads.
+    fn inputs(&self) -> usize {
+        if self.call < 4 {
+            6
+        } else {
+            1
         }
     }
 
@@ -156,5 +189,18 @@ mod tests {
         let sums = Frozen::of_leaf("ln_cumsum_exp", &[], &Answer::refused(7, 0, 3), Some(&[0.0, -0.0]));
         let cases = vec![leaf, sums];
         assert_eq!(read(&write(&cases)), cases);
+    }
+
+    #[test]
+    fn an_altered_case_is_marked_and_has_one_fault() {
+        let sums = Frozen::of_leaf("ln_cumsum_exp", &[-1.0], &Answer::done(-1.0), Some(&[-1.0, 0.0]));
+        let altered = sums.altered();
+        assert_eq!(altered.len(), 1 + 2 * (4 + 2));
+        for case in altered {
+            assert_eq!(case.call, sums.call + NAMES.len() as u64);
+            let (whole, words) = (sums.words(), case.words());
+            let others = words[1..].iter().zip(&whole[1..]).filter(|(a, b)| a != b).count();
+            assert_eq!(others + words.len() - whole.len(), 1);
+        }
     }
 }

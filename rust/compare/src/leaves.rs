@@ -4,7 +4,7 @@ use crate::engine::{Leaves, One, Two, REFERENCE};
 use crate::random::Random;
 use crate::verdict::{Intended, Verdict};
 use oracle::{caught, Modes};
-use reference::answer::{DONE, NEGATIVE, NOT_GOOD, OVERSHOOT};
+use reference::answer::{DONE, NEGATIVE_DIFFERENCE, NOT_GOOD, OVERSHOOT};
 use reference::{leaves, Answer};
 
 /// Numbers at the edges of what the leaves tell apart.
@@ -79,7 +79,7 @@ fn against(ours: Answer, theirs: Option<f64>, has_nan: bool) -> Verdict {
         (DONE, Some(theirs)) => verdict.number("value", ours.value, theirs),
         (NOT_GOOD, _) if has_nan => verdict.note(Intended::NotANumber),
         (NOT_GOOD, _) => verdict.note(Intended::OutsideDomain),
-        (NEGATIVE, None) => verdict.note(Intended::NegativePanics),
+        (NEGATIVE_DIFFERENCE, None) => verdict.note(Intended::NegativeDifferencePanics),
         (OVERSHOOT, None) => verdict.note(Intended::OvershootPanics),
         (OVERSHOOT, Some(_)) if has_nan => verdict.note(Intended::NotANumberEpsilon),
         (refusal, theirs) => verdict.wrong = Some(format!("refusal {refusal}, and bio {theirs:?}")),

@@ -1,8 +1,8 @@
-//! The memory that a call is lent, filled with a pattern, and what the rules say of it afterwards.
+//! The memory that a call is lent, filled with a pattern, and what RULES 3.4 says of it afterwards.
 
 use crate::case::Case;
 use crate::random::Random;
-use reference::answer::{DONE, NO_MASS};
+use reference::answer::{DONE, ZERO_MASS};
 use reference::Answer;
 
 /// The calls on a model.
@@ -103,10 +103,10 @@ pub fn lend(call: Call, case: &Case, random: &mut Random) -> Vec<Output> {
         .collect()
 }
 
-/// What is wrong with the memory after a call, by the rules that hold for every call: 1 to 8 leave all of it alone; 9
+/// What is wrong with the memory after a call, by RULES 3.4: 1 to 8 leave all of it alone; 9
 /// leaves the outputs alone; done and 9 leave surplus alone and the needed scratch at +0.0.
 pub fn fault(call: Call, case: &Case, answer: &Answer, before: &[Output], after: &[Output]) -> Option<String> {
-    let needed = if answer.refusal == DONE || answer.refusal == NO_MASS {
+    let needed = if answer.refusal == DONE || answer.refusal == ZERO_MASS {
         call.needed(case)
     } else {
         vec![0; before.len()]
@@ -114,7 +114,7 @@ pub fn fault(call: Call, case: &Case, answer: &Answer, before: &[Output], after:
     let outputs = before.iter().zip(after).zip(needed).enumerate();
     for (place, ((before, after), needed)) in outputs {
         let scratch = call.is_scratch(place);
-        let kept = if answer.refusal == NO_MASS && !scratch {
+        let kept = if answer.refusal == ZERO_MASS && !scratch {
             0
         } else {
             needed

@@ -5,6 +5,7 @@ pub mod comparison;
 pub mod damage;
 pub mod engine;
 pub mod frozen;
+pub mod grids;
 pub mod leaves;
 pub mod lent;
 pub mod likeness;

@@ -7,7 +7,7 @@ use crate::lent::{fault, lend, Call, Output};
 use crate::random::Random;
 use crate::verdict::{Intended, Verdict};
 use oracle::{caught, Bio, Trained, Walks};
-use reference::answer::{DONE, NO_MASS, NO_SAMPLES};
+use reference::answer::{DONE, FIRST_OUTPUT, NO_SAMPLES, ZERO_MASS};
 use reference::Answer;
 
 /// The reference's answer to a call, with outputs of just their length.
@@ -45,7 +45,7 @@ fn bio_model(bio: &Bio, case: &Case) -> Box<dyn Walks> {
     (bio.model)(&case.model()).expect("the dimensions of a case are consistent")
 }
 
-/// The best path: path, value and both tables, bit for bit.
+/// The best path: path, value and both tables, bit for bit. Without an end state both of bio's discrete models give it.
 pub fn viterbi(bio: &Bio, case: &Case) -> Verdict {
     let ours = ours(Call::Viterbi, case);
     let walks = bio_model(bio, case);
@@ -58,6 +58,12 @@ pub fn viterbi(bio: &Bio, case: &Case) -> Verdict {
     verdict.bytes("path", ours.bytes(0), &path);
     verdict.table("values", ours.numbers(1), &values);
     verdict.bytes("from", ours.bytes(2), &from);
+    if !case.shape.ends {
+        let walks = (bio.model_without_end)(&case.model()).expect("the dimensions of a case are consistent");
+        let (path, value) = walks.viterbi(&samples);
+        verdict.number("value of the model without an end state", ours.answer.value, value);
+        verdict.bytes("path of the model without an end state", ours.bytes(0), &path);
+    }
     verdict
 }
 
@@ -100,8 +106,8 @@ pub fn pass(bio: &Bio, case: &Case) -> Verdict {
     let theirs = caught(|| walks.baum_welch(&samples));
     match (ours.answer.refusal, theirs) {
         (NO_SAMPLES, None) => Verdict::only(Intended::NoSamples),
-        (NO_MASS, None) => Verdict::only(Intended::NoMassPanics),
-        (NO_MASS, Some(theirs)) => no_mass(case, ours.answer.place, &theirs),
+        (ZERO_MASS, None) => Verdict::only(Intended::ZeroMassPanics),
+        (ZERO_MASS, Some(theirs)) => zero_mass(case, ours.answer.place, &theirs),
         (DONE, Some(theirs)) => {
             let mut verdict = trained(case, &ours, &theirs);
             let (alpha, _) = walks.forward(&samples);
@@ -126,7 +132,7 @@ fn probx(bio: &Bio, case: &Case, alpha: &[f64], beta: &[f64]) -> f64 {
 
 /// Where a pass is refused for zero mass, bio's tables are not numbers that a model could have: some entry, of the
 /// named state's rows where one is named, is NaN or +inf.
-fn no_mass(case: &Case, place: usize, theirs: &Trained) -> Verdict {
+fn zero_mass(case: &Case, place: usize, theirs: &Trained) -> Verdict {
     let states = case.shape.states;
     let row = |table: &[f64]| {
         let columns = table.len() / states;
@@ -137,7 +143,7 @@ fn no_mass(case: &Case, place: usize, theirs: &Trained) -> Verdict {
     };
     let entries = [row(&theirs.transition), row(&theirs.emission)].concat();
     if entries.iter().any(|x| x.is_nan() || *x == f64::INFINITY) {
-        Verdict::only(Intended::NoMassNotFinite)
+        Verdict::only(Intended::ZeroMassNotFinite)
     } else {
         Verdict::wrong("zero mass, and bio's rows are numbers".to_string())
     }
@@ -197,13 +203,13 @@ pub fn library(library: &Engine, call: Call, case: &Case, lent: Vec<Output>) -> 
     let answer = (library.call)(call, case, &mut theirs);
     let mut verdict = Verdict::default();
     verdict.answer(&expected, &answer);
-    for (number, (ours, theirs)) in (5..).zip(ours.iter().zip(&theirs)) {
+    for (number, (ours, theirs)) in (FIRST_OUTPUT..).zip(ours.iter().zip(&theirs)) {
         verdict.output(number, ours, theirs);
     }
     verdict
 }
 
-/// The reference against the rules on lent memory, and, after damage, against the answer that it must lead to.
+/// The reference against RULES 3.4 on lent memory, and, after damage, against the answer that it must lead to.
 pub fn memory(call: Call, case: &Case, expected: Option<Named>, lent: Vec<Output>) -> Verdict {
     let mut outputs = lent.clone();
     let answer = (REFERENCE.call)(call, case, &mut outputs);

@@ -9,12 +9,12 @@ pub enum Intended {
     NoSamples,
     AbsentSymbols,
     Cap,
-    NoMassPanics,
-    NoMassNotFinite,
+    ZeroMassPanics,
+    ZeroMassNotFinite,
     NotANumber,
     OutsideDomain,
     NotANumberEpsilon,
-    NegativePanics,
+    NegativeDifferencePanics,
     OvershootPanics,
 }
 
@@ -24,12 +24,12 @@ impl Intended {
             Intended::NoSamples => "no samples in forward or a pass: 4, where bio panics",
             Intended::AbsentSymbols => "absent symbols: a column at minus infinity, which bio drops",
             Intended::Cap => "a result of a pass above 0: stored as 0.0, which bio leaves",
-            Intended::NoMassPanics => "zero mass in a pass: 9, where bio panics",
-            Intended::NoMassNotFinite => "zero mass in a pass: 9, where bio gives NaN or +inf",
+            Intended::ZeroMassPanics => "zero mass in a pass: 9, where bio panics",
+            Intended::ZeroMassNotFinite => "zero mass in a pass: 9, where bio gives NaN or +inf",
             Intended::NotANumber => "NaN in a leaf: 7, where bio computes on",
             Intended::OutsideDomain => "an argument outside a kernel's domain: 7, where bio computes on or panics",
             Intended::NotANumberEpsilon => "a NaN epsilon: 11, where bio gives the value back",
-            Intended::NegativePanics => "a difference below zero: 10, where bio panics",
+            Intended::NegativeDifferencePanics => "a difference below zero: 10, where bio panics",
             Intended::OvershootPanics => "an overshoot beyond epsilon: 11, where bio panics",
         }
     }

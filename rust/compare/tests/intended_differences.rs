@@ -1,8 +1,12 @@
-//! Each intended difference from bio as published, by its smallest input: first what the rules say, then what bio does,
+//! Each intended difference from bio as published, by its smallest input: first what RULES.md says, then what bio does,
 //! where its text is at hand.
 
 use compare::case::Case;
 use oracle::{caught, Modes, Walks};
+use reference::answer::{
+    BAD_STATES, BAD_SYMBOLS, END, INITIAL, NEGATIVE_DIFFERENCE, NOT_GOOD, NO_SAMPLES, OVERSHOOT, SAMPLES,
+    TOO_MANY_SAMPLES, TRANSITION, UNKNOWN_SYMBOL, WRONG_LENGTH, ZERO_MASS,
+};
 use reference::leaves;
 use reference::{Answer, Estimates, Shape};
 
@@ -47,10 +51,10 @@ fn pass(case: &Case) -> (Answer, [Vec<f64>; 4]) {
     let [mut transition, mut emission, mut initial, mut end] = tables.map(|length| vec![0.0; length]);
     let cells = case.samples.len() * case.shape.states;
     let mut new = Estimates {
-        transition: &mut transition,
-        emission: &mut emission,
-        initial: &mut initial,
-        end: &mut end,
+        new_transition: &mut transition,
+        new_emission: &mut emission,
+        new_initial: &mut initial,
+        new_end: &mut end,
         alpha: &mut vec![0.0; cells],
         beta: &mut vec![0.0; cells],
     };
@@ -66,7 +70,7 @@ fn assert_refused(answer: Answer, refusal: u8, table: u8, place: usize) {
 #[test]
 fn refusal_1_states() {
     let case = zeros(65, 1, false, &[0]);
-    assert_refused(viterbi(&case), 1, 0, 65);
+    assert_refused(viterbi(&case), BAD_STATES, 0, 65);
     let Some(modes) = oracle::modes() else { return };
     assert_eq!(bio(&modes, &case).viterbi(&[0]), (vec![64], 0.0));
 }
@@ -74,7 +78,7 @@ fn refusal_1_states() {
 #[test]
 fn refusal_2_symbols() {
     let case = zeros(1, 257, false, &[]);
-    assert_refused(viterbi(&case), 2, 0, 257);
+    assert_refused(viterbi(&case), BAD_SYMBOLS, 0, 257);
     let Some(modes) = oracle::modes() else { return };
     assert_eq!(bio(&modes, &case).viterbi(&[256]), (vec![0], 0.0));
 }
@@ -82,7 +86,7 @@ fn refusal_2_symbols() {
 #[test]
 fn refusal_3_samples() {
     let case = zeros(1, 1, false, &[0; 4097]);
-    assert_refused(viterbi(&case), 3, 4, 4097);
+    assert_refused(viterbi(&case), TOO_MANY_SAMPLES, SAMPLES, 4097);
     let Some(modes) = oracle::modes() else { return };
     assert_eq!(bio(&modes, &case).viterbi(&case.wide_samples()).1, 0.0);
 }
@@ -90,8 +94,8 @@ fn refusal_3_samples() {
 #[test]
 fn refusal_4_forward_and_a_pass_on_no_samples() {
     let case = zeros(1, 1, false, &[]);
-    assert_refused(forward(&case), 4, 4, 0);
-    assert_refused(pass(&case).0, 4, 4, 0);
+    assert_refused(forward(&case), NO_SAMPLES, SAMPLES, 0);
+    assert_refused(pass(&case).0, NO_SAMPLES, SAMPLES, 0);
     let Some(modes) = oracle::modes() else { return };
     assert!(caught(|| bio(&modes, &case).forward(&[])).is_none());
     assert!(caught(|| bio(&modes, &case).baum_welch(&[])).is_none());
@@ -101,7 +105,7 @@ fn refusal_4_forward_and_a_pass_on_no_samples() {
 fn refusal_5_tables_where_bio_gives_an_error() {
     let mut case = zeros(1, 1, false, &[0]);
     case.initial.push(0.0);
-    assert_refused(viterbi(&case), 5, 2, 2);
+    assert_refused(viterbi(&case), WRONG_LENGTH, INITIAL, 2);
     let Some(modes) = oracle::modes() else { return };
     assert!((modes.published.model)(&case.model()).is_none());
 }
@@ -110,11 +114,11 @@ fn refusal_5_tables_where_bio_gives_an_error() {
 fn refusal_5_the_end_table_which_bio_does_not_check() {
     let mut case = zeros(1, 1, true, &[0]);
     case.end = vec![0.0, 0.0];
-    assert_refused(forward(&case), 5, 3, 2);
+    assert_refused(forward(&case), WRONG_LENGTH, END, 2);
     let Some(modes) = oracle::modes() else { return };
     assert_eq!(bio(&modes, &case).forward(&[0]).1, 0.0);
     case.end.clear();
-    assert_refused(forward(&case), 5, 3, 0);
+    assert_refused(forward(&case), WRONG_LENGTH, END, 0);
     assert!(caught(|| bio(&modes, &case).forward(&[0])).is_none());
 }
 
@@ -122,12 +126,12 @@ fn refusal_5_the_end_table_which_bio_does_not_check() {
 fn refusal_7_nan_and_positive_entries() {
     let mut case = zeros(2, 1, false, &[0, 0]);
     case.transition[0] = f64::NAN;
-    assert_refused(viterbi(&case), 7, 0, 0);
+    assert_refused(viterbi(&case), NOT_GOOD, TRANSITION, 0);
     let Some(modes) = oracle::modes() else { return };
     assert!(caught(|| bio(&modes, &case).viterbi(&[0, 0])).is_none());
     let mut case = zeros(1, 1, false, &[0]);
     case.initial[0] = 0.5;
-    assert_refused(viterbi(&case), 7, 2, 0);
+    assert_refused(viterbi(&case), NOT_GOOD, INITIAL, 0);
     assert_eq!(bio(&modes, &case).viterbi(&[0]).1, 0.5);
 }
 
@@ -135,33 +139,33 @@ fn refusal_7_nan_and_positive_entries() {
 fn refusal_7_an_end_table_without_an_end_state() {
     let mut case = zeros(1, 1, false, &[0]);
     case.end[0] = -1.0;
-    assert_refused(forward(&case), 7, 3, 0);
+    assert_refused(forward(&case), NOT_GOOD, END, 0);
     let Some(modes) = oracle::modes() else { return };
     assert_eq!(bio(&modes, &case).forward(&[0]).1, -1.0);
     case.end[0] = -0.0;
-    assert_refused(forward(&case), 7, 3, 0);
+    assert_refused(forward(&case), NOT_GOOD, END, 0);
 }
 
 #[test]
 fn refusal_7_outside_a_domain() {
-    assert_refused(leaves::prob_of_log(1.0), 7, 0, 0);
+    assert_refused(leaves::prob_of_log(1.0), NOT_GOOD, 0, 0);
     let Some(modes) = oracle::modes() else { return };
     let bio = modes.published.leaves;
     assert!((bio.prob_of_log)(1.0) > 2.7);
-    assert_refused(leaves::log_of_prob(-1.0), 7, 0, 0);
+    assert_refused(leaves::log_of_prob(-1.0), NOT_GOOD, 0, 0);
     assert!((bio.log_of_prob)(-1.0).is_nan());
-    assert_refused(leaves::ln_one_minus_exp(0.5), 7, 0, 0);
+    assert_refused(leaves::ln_one_minus_exp(0.5), NOT_GOOD, 0, 0);
     assert!(caught(|| (bio.ln_one_minus_exp)(0.5)).is_none());
-    assert_refused(leaves::ln_sum_exp(&[0.0, f64::NAN]), 7, 0, 1);
+    assert_refused(leaves::ln_sum_exp(&[0.0, f64::NAN]), NOT_GOOD, 0, 1);
     assert!((bio.ln_sum_exp)(&[0.0, f64::NAN]).is_finite());
-    assert_refused(leaves::phred_of_log(f64::NAN), 7, 0, 0);
+    assert_refused(leaves::phred_of_log(f64::NAN), NOT_GOOD, 0, 0);
     assert!((bio.phred_of_log)(f64::NAN).is_nan());
 }
 
 #[test]
 fn refusal_8_a_sample_beyond_the_symbols() {
     let case = zeros(1, 1, false, &[1]);
-    assert_refused(viterbi(&case), 8, 4, 0);
+    assert_refused(viterbi(&case), UNKNOWN_SYMBOL, SAMPLES, 0);
     let Some(modes) = oracle::modes() else { return };
     assert!(caught(|| bio(&modes, &case).viterbi(&[1])).is_none());
 }
@@ -170,18 +174,18 @@ fn refusal_8_a_sample_beyond_the_symbols() {
 fn refusal_9_no_path_at_all() {
     let mut case = zeros(1, 1, true, &[0]);
     case.emission[0] = MINUS;
-    assert_refused(pass(&case).0, 9, 0, 1);
+    assert_refused(pass(&case).0, ZERO_MASS, 0, 1);
     let Some(modes) = oracle::modes() else { return };
     assert!(bio(&modes, &case).baum_welch(&[0]).initial[0].is_nan());
     case.shape.ends = false;
-    assert_refused(pass(&case).0, 9, 0, 1);
+    assert_refused(pass(&case).0, ZERO_MASS, 0, 1);
     assert!(caught(|| bio(&modes, &case).baum_welch(&[0])).is_none());
 }
 
 #[test]
 fn refusal_9_one_sample_without_an_end_state() {
     let case = zeros(1, 1, false, &[0]);
-    assert_refused(pass(&case).0, 9, 0, 0);
+    assert_refused(pass(&case).0, ZERO_MASS, 0, 0);
     let Some(modes) = oracle::modes() else { return };
     assert!(bio(&modes, &case).baum_welch(&[0]).transition[0].is_nan());
 }
@@ -190,7 +194,7 @@ fn refusal_9_one_sample_without_an_end_state() {
 fn refusal_9_a_state_that_is_occupied_at_the_last_sample_alone() {
     let mut case = zeros(2, 1, false, &[0, 0]);
     case.initial[0] = -1000.0;
-    assert_refused(pass(&case).0, 9, 0, 0);
+    assert_refused(pass(&case).0, ZERO_MASS, 0, 0);
     let Some(modes) = oracle::modes() else { return };
     assert_eq!(bio(&modes, &case).baum_welch(&[0, 0]).transition[0], f64::INFINITY);
 }
@@ -199,24 +203,24 @@ fn refusal_9_a_state_that_is_occupied_at_the_last_sample_alone() {
 fn refusal_9_where_bio_goes_on_since_its_logarithm_has_finer_steps() {
     let mut case = zeros(2, 1, false, &[0, 0]);
     case.initial[0] = -25.0;
-    assert_refused(pass(&case).0, 9, 0, 0);
+    assert_refused(pass(&case).0, ZERO_MASS, 0, 0);
     let Some(modes) = oracle::modes() else { return };
     assert!(bio(&modes, &case).baum_welch(&[0, 0]).transition[0] < 0.0);
 }
 
 #[test]
 fn refusals_10_and_11_where_bio_panics() {
-    assert_refused(leaves::ln_sub_exp(-2.0, -1.0), 10, 0, 0);
+    assert_refused(leaves::ln_sub_exp(-2.0, -1.0), NEGATIVE_DIFFERENCE, 0, 0);
     let Some(modes) = oracle::modes() else { return };
     let bio = modes.published.leaves;
     assert!(caught(|| (bio.ln_sub_exp)(-2.0, -1.0)).is_none());
-    assert_refused(leaves::cap_numerical_overshoot(1.0, 0.5), 11, 0, 0);
+    assert_refused(leaves::cap_numerical_overshoot(1.0, 0.5), OVERSHOOT, 0, 0);
     assert!(caught(|| (bio.cap_numerical_overshoot)(1.0, 0.5)).is_none());
 }
 
 #[test]
 fn refusal_11_a_nan_epsilon() {
-    assert_refused(leaves::cap_numerical_overshoot(-1.0, f64::NAN), 11, 0, 0);
+    assert_refused(leaves::cap_numerical_overshoot(-1.0, f64::NAN), OVERSHOOT, 0, 0);
     let Some(modes) = oracle::modes() else { return };
     assert_eq!((modes.published.leaves.cap_numerical_overshoot)(-1.0, f64::NAN), -1.0);
 }

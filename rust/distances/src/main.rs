@@ -1,6 +1,6 @@
 //! `kernel-distances`: how far exp and ln are from Rust's library on dense grids, the worst place of each, and whether
-//! the rules' bounds hold: exp relative at most 2^-23 for arguments down to -42, ln absolute at most 2^-27. They are the
-//! proved library's where it is linked, else the reference's.
+//! the bounds of RULES 8.2 hold: exp relative at most 2^-23 for arguments down to -42, ln absolute at most 2^-27. They are
+//! the proved library's, or the reference's where this is built without it.
 
 use compare::engine::{self, Leaves, REFERENCE};
 use std::f64::consts::LN_2;

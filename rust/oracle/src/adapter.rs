@@ -13,26 +13,39 @@ macro_rules! mode {
             use reference::Model;
             use std::cell::RefCell;
             use text::exponential::FastExp;
-            use text::hmm::{self, discrete_emission_opt_end as discrete};
+            use text::hmm::{self, discrete_emission, discrete_emission_opt_end};
             use text::{LogProb, PHREDProb, Prob};
 
             pub fn bio() -> Bio {
                 Bio {
                     model,
+                    model_without_end,
                     leaves: LEAVES,
                 }
             }
 
             fn model(model: &Model) -> Option<Box<dyn Walks>> {
-                let built = discrete::Model::new(
+                let built = discrete_emission_opt_end::Model::new(
                     RefCell::new(table(model.transition, model.shape.states)),
                     RefCell::new(table(model.emission, model.shape.symbols)),
                     RefCell::new(row(model.initial)),
                     RefCell::new(row(model.end)),
                     model.shape.ends,
                 );
-                built.ok().map(|built| Box::new(built) as Box<dyn Walks>)
+                built.ok().map(|built| Box::new(Walked(built)) as Box<dyn Walks>)
             }
+
+            fn model_without_end(model: &Model) -> Option<Box<dyn Walks>> {
+                let built = discrete_emission::Model::new(
+                    table(model.transition, model.shape.states),
+                    table(model.emission, model.shape.symbols),
+                    row(model.initial),
+                );
+                built.ok().map(|built| Box::new(Walked(built)) as Box<dyn Walks>)
+            }
+
+            /// Either of bio's two discrete models.
+            struct Walked<M>(M);
 
             fn row(entries: &[f64]) -> Array1<LogProb> {
                 entries.iter().map(|x| LogProb(*x)).collect()
@@ -50,30 +63,30 @@ macro_rules! mode {
                 table.into_entries().into_iter().map(|x| *x).collect()
             }
 
-            impl Walks for discrete::Model {
+            impl<M: hmm::Model<usize>> Walks for Walked<M> {
                 fn viterbi(&self, samples: &[usize]) -> (Vec<u8>, f64) {
-                    let (path, value) = hmm::viterbi(self, samples);
+                    let (path, value) = hmm::viterbi(&self.0, samples);
                     (path.iter().map(|state| **state as u8).collect(), *value)
                 }
 
                 fn viterbi_tables(&self, samples: &[usize]) -> (Vec<f64>, Vec<u8>) {
-                    let (values, from) = hmm::viterbi_matrices(self, samples);
+                    let (values, from) = hmm::viterbi_matrices(&self.0, samples);
                     let from = from.into_entries();
                     (numbers(values), from.iter().map(|state| *state as u8).collect())
                 }
 
                 fn forward(&self, samples: &[usize]) -> (Vec<f64>, f64) {
-                    let (values, value) = hmm::forward(self, samples);
+                    let (values, value) = hmm::forward(&self.0, samples);
                     (numbers(values), *value)
                 }
 
                 fn backward(&self, samples: &[usize]) -> (Vec<f64>, f64) {
-                    let (values, value) = hmm::backward(self, samples);
+                    let (values, value) = hmm::backward(&self.0, samples);
                     (numbers(values), *value)
                 }
 
                 fn baum_welch(&self, samples: &[usize]) -> Trained {
-                    let (initial, transition, emission, end) = hmm::baum_welch(self, samples);
+                    let (initial, transition, emission, end) = hmm::baum_welch(&self.0, samples);
                     Trained {
                         transition: numbers(transition),
                         emission: numbers(emission),

@@ -1,6 +1,6 @@
 //! bio 4.2.2 as the oracle: its hidden Markov models and log-probabilities, called over flat arrays.
 //!
-//! There are three modes: as published; with Rust's exp in the place of `fastexp`; and with the kernels of the rules
+//! There are three modes: as published; with Rust's exp in the place of `fastexp`; and with the kernels of RULES 4
 //! in the place of exp and ln. bio's text is taken at build time (build.rs); where it is not at hand, there is no mode.
 
 #[cfg(bio)]
@@ -28,6 +28,8 @@ use std::sync::Once;
 pub struct Bio {
     /// bio's model with an optional end state, none where bio finds the dimensions inconsistent.
     pub model: fn(&Model) -> Option<Box<dyn Walks>>,
+    /// bio's model that knows no end state, which leaves the end table out.
+    pub model_without_end: fn(&Model) -> Option<Box<dyn Walks>>,
     pub leaves: Leaves,
 }
 

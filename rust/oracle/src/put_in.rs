@@ -13,7 +13,7 @@ pub mod library {
     }
 }
 
-/// The kernels of the rules. Outside its domain each gives NaN, as there is no refusal inside bio.
+/// The kernels of RULES 4. Outside its domain each gives NaN, as there is no refusal inside bio.
 pub mod kernels {
     use reference::leaves::{exp, ln};
     use reference::{kernels, Answer};

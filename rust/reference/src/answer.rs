@@ -1,20 +1,24 @@
-//! What every call hands back: which refusal, which table, the place in it, and a value.
+//! What every call hands back (RULES 3.1): which refusal, which table, the place in it, and a value.
 
-/// The refusal numbers of the rules; 0 is done.
+/// The refusal numbers of RULES 3.2; 0 is done, and no call gives 12.
 pub const DONE: u8 = 0;
-pub const STATES: u8 = 1;
-pub const SYMBOLS: u8 = 2;
+pub const BAD_STATES: u8 = 1;
+pub const BAD_SYMBOLS: u8 = 2;
 pub const TOO_MANY_SAMPLES: u8 = 3;
 pub const NO_SAMPLES: u8 = 4;
-pub const TABLE_LENGTH: u8 = 5;
-pub const OUTPUT_LENGTH: u8 = 6;
+pub const WRONG_LENGTH: u8 = 5;
+pub const OUTPUT_TOO_SHORT: u8 = 6;
 pub const NOT_GOOD: u8 = 7;
-pub const SAMPLE: u8 = 8;
-pub const NO_MASS: u8 = 9;
-pub const NEGATIVE: u8 = 10;
+pub const UNKNOWN_SYMBOL: u8 = 8;
+pub const ZERO_MASS: u8 = 9;
+pub const NEGATIVE_DIFFERENCE: u8 = 10;
 pub const OVERSHOOT: u8 = 11;
 
-/// The number of the samples among the lent tables; outputs are numbered from the one after it.
+/// The numbers of what is lent; outputs are numbered from 5 in the order of the arguments.
+pub const TRANSITION: u8 = 0;
+pub const EMISSION: u8 = 1;
+pub const INITIAL: u8 = 2;
+pub const END: u8 = 3;
 pub const SAMPLES: u8 = 4;
 pub const FIRST_OUTPUT: u8 = 5;
 

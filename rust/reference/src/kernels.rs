@@ -1,4 +1,4 @@
-//! exp and ln as exact definitions, and ln(1 - exp p), each on its own domain.
+//! exp, ln and ln(1 - exp p) of RULES 4, each on its own domain.
 //!
 //! The library splits and joins bit patterns and has its constants written out. Here the same numbers come from
 //! products with powers of two and casts, and the constants from square roots. The tests hold both kernels against
@@ -44,7 +44,7 @@ pub fn exp(d: f64) -> f64 {
     fraction / (1_u64 << whole) as f64
 }
 
-/// exp(d) for d at most 0 as the rules read: a loop over the constants, and a product where the bit is set. The same value
+/// exp(d) for d at most 0 as RULES 4.1 reads: a loop over the constants, and a product where the bit is set. The same value
 /// as `exp`, whose loop is shaped for speed.
 pub fn exp_as_written(d: f64) -> f64 {
     let y = d.abs() * LOG2_E;

@@ -1,8 +1,9 @@
-//! The leaves with their refusals: NaN and arguments outside a domain are answered by number, never computed with.
+//! The leaves of RULES 5 with their refusals: NaN and arguments outside a domain are answered by number, never computed
+//! with.
 //!
 //! In a leaf the table is 0 and the place is the argument's number from 0, or the index in a slice.
 
-use crate::answer::{Answer, FIRST_OUTPUT, NEGATIVE, NOT_GOOD, OUTPUT_LENGTH, OVERSHOOT};
+use crate::answer::{Answer, FIRST_OUTPUT, NEGATIVE_DIFFERENCE, NOT_GOOD, OUTPUT_TOO_SHORT, OVERSHOOT};
 use crate::{kernels, sums};
 
 /// phred = log-probability times this.
@@ -47,18 +48,18 @@ pub fn ln_one_minus_exp(p: f64) -> Answer {
 }
 
 /// `ln_sum_exp` over a slice of any length, refused at the first NaN.
-pub fn ln_sum_exp(xs: &[f64]) -> Answer {
-    match first_nan(xs) {
+pub fn ln_sum_exp(probs: &[f64]) -> Answer {
+    match first_nan(probs) {
         Some(place) => not_good(place),
-        None => Answer::done(sums::ln_sum_exp(xs)),
+        None => Answer::done(sums::ln_sum_exp(probs)),
     }
 }
 
 /// `ln_add_exp`, refused at the first NaN.
-pub fn ln_add_exp(first: f64, second: f64) -> Answer {
-    match first_nan(&[first, second]) {
+pub fn ln_add_exp(p0: f64, p1: f64) -> Answer {
+    match first_nan(&[p0, p1]) {
         Some(place) => not_good(place),
-        None => Answer::done(sums::ln_add_exp(first, second)),
+        None => Answer::done(sums::ln_add_exp(p0, p1)),
     }
 }
 
@@ -66,22 +67,22 @@ pub fn ln_add_exp(first: f64, second: f64) -> Answer {
 pub fn ln_sub_exp(p0: f64, p1: f64) -> Answer {
     match first_nan(&[p0, p1]) {
         Some(place) => not_good(place),
-        None if p0 < p1 => Answer::refused(NEGATIVE, 0, 0),
+        None if p0 < p1 => Answer::refused(NEGATIVE_DIFFERENCE, 0, 0),
         None => Answer::done(sums::ln_sub_exp(p0, p1)),
     }
 }
 
 /// Cumulative sums from a slice into an output that may be longer; the value is the last sum.
-pub fn ln_cumsum_exp(xs: &[f64], out: &mut [f64]) -> Answer {
-    if out.len() < xs.len() {
-        return Answer::refused(OUTPUT_LENGTH, FIRST_OUTPUT, out.len());
+pub fn ln_cumsum_exp(probs: &[f64], sums: &mut [f64]) -> Answer {
+    if sums.len() < probs.len() {
+        return Answer::refused(OUTPUT_TOO_SHORT, FIRST_OUTPUT, sums.len());
     }
-    if let Some(place) = first_nan(xs) {
+    if let Some(place) = first_nan(probs) {
         return not_good(place);
     }
     let mut sum = f64::NEG_INFINITY;
-    for (x, cell) in xs.iter().zip(out) {
-        sum = sums::ln_add_exp(sum, *x);
+    for (p, cell) in probs.iter().zip(sums) {
+        sum = sums::ln_add_exp(sum, *p);
         *cell = sum;
     }
     Answer::done(sum)

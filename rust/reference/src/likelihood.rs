@@ -1,4 +1,4 @@
-//! Forward and backward.
+//! Forward and backward, RULES 6.2 and 6.3.
 
 use crate::answer::Answer;
 use crate::kernels::{exp, exp_as_written};
@@ -10,7 +10,7 @@ pub fn forward(model: &Model, samples: &[u16], values: &mut [f64]) -> Answer {
     forward_by(exp, model, samples, values)
 }
 
-/// `forward` with the exp that is a loop as the rules read, for the benchmarks.
+/// `forward` with the exp that is a loop as RULES 4.1 reads, for the benchmarks.
 pub fn forward_as_written(model: &Model, samples: &[u16], values: &mut [f64]) -> Answer {
     forward_by(exp_as_written, model, samples, values)
 }
@@ -34,7 +34,7 @@ pub fn backward(model: &Model, samples: &[u16], values: &mut [f64]) -> Answer {
     backward_by(exp, model, samples, values)
 }
 
-/// `backward` with the exp that is a loop as the rules read, for the benchmarks.
+/// `backward` with the exp that is a loop as RULES 4.1 reads, for the benchmarks.
 pub fn backward_as_written(model: &Model, samples: &[u16], values: &mut [f64]) -> Answer {
     backward_by(exp_as_written, model, samples, values)
 }

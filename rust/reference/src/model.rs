@@ -1,8 +1,8 @@
-//! The model as its caller lends it, and the checks 1 to 8 in their order.
+//! The model as its caller lends it, and the checks 1 to 8 in the order of RULES 3.3.
 
 use crate::answer::{
-    Answer, FIRST_OUTPUT, NOT_GOOD, NO_SAMPLES, OUTPUT_LENGTH, SAMPLE, SAMPLES, STATES, SYMBOLS, TABLE_LENGTH,
-    TOO_MANY_SAMPLES,
+    Answer, BAD_STATES, BAD_SYMBOLS, FIRST_OUTPUT, NOT_GOOD, NO_SAMPLES, OUTPUT_TOO_SHORT, SAMPLES, TOO_MANY_SAMPLES,
+    UNKNOWN_SYMBOL, WRONG_LENGTH,
 };
 
 /// The greatest shapes that are taken.
@@ -83,9 +83,9 @@ pub fn check<const N: usize>(
 /// Refusals 1 to 4.
 fn check_sizes(shape: Shape, length: usize, empty: Empty) -> Option<Answer> {
     if !(1..=MOST_STATES).contains(&shape.states) {
-        Some(Answer::refused(STATES, 0, shape.states))
+        Some(Answer::refused(BAD_STATES, 0, shape.states))
     } else if !(1..=MOST_SYMBOLS).contains(&shape.symbols) {
-        Some(Answer::refused(SYMBOLS, 0, shape.symbols))
+        Some(Answer::refused(BAD_SYMBOLS, 0, shape.symbols))
     } else if length > MOST_SAMPLES {
         Some(Answer::refused(TOO_MANY_SAMPLES, SAMPLES, length))
     } else if length == 0 && empty == Empty::Refused {
@@ -102,7 +102,7 @@ fn check_tables(model: &Model) -> Option<Answer> {
     (0..)
         .zip(model.tables().iter().zip(lengths))
         .find(|(_, (table, length))| table.len() != *length)
-        .map(|(number, (table, _))| Answer::refused(TABLE_LENGTH, number, table.len()))
+        .map(|(number, (table, _))| Answer::refused(WRONG_LENGTH, number, table.len()))
 }
 
 /// Refusal 6, outputs by number.
@@ -110,7 +110,7 @@ fn check_outputs(outputs: &[Output]) -> Option<Answer> {
     (FIRST_OUTPUT..)
         .zip(outputs)
         .find(|(_, output)| output.length < output.needed)
-        .map(|(number, output)| Answer::refused(OUTPUT_LENGTH, number, output.length))
+        .map(|(number, output)| Answer::refused(OUTPUT_TOO_SHORT, number, output.length))
 }
 
 /// Refusal 7, tables by number and places upward.
@@ -142,5 +142,5 @@ fn check_samples(shape: Shape, samples: &[u16]) -> Option<Answer> {
     samples
         .iter()
         .position(|sample| usize::from(*sample) >= shape.symbols)
-        .map(|place| Answer::refused(SAMPLE, SAMPLES, place))
+        .map(|place| Answer::refused(UNKNOWN_SYMBOL, SAMPLES, place))
 }

@@ -1,4 +1,4 @@
-//! Sums and differences of probabilities in log space, for numbers that are not NaN.
+//! Sums and differences of probabilities in log space (RULES 5.2 to 5.5), for numbers that are not NaN.
 
 use crate::kernels::{exp, ln, ln_1m_exp};
 

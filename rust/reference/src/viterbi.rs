@@ -1,4 +1,4 @@
-//! The best path.
+//! The best path, RULES 6.1.
 
 use crate::answer::Answer;
 use crate::model::{check, Empty, Model, Output};

@@ -1,4 +1,4 @@
-//! The gate-post examples of the rules, each by its name there.
+//! The gate-post examples of RULES 9, each by its name there.
 
 use reference::{backward, baum_welch, forward, leaves, viterbi, Answer, Estimates, Model, Shape};
 
@@ -136,12 +136,12 @@ fn s1_s2_sums() {
 fn z4_a_pass_on_one_sample_without_end() {
     let z = all_zero(2);
     let mut outputs = [[7.0; 4]; 6];
-    let [transition, emission, initial, end, alpha, beta] = &mut outputs;
+    let [new_transition, new_emission, new_initial, new_end, alpha, beta] = &mut outputs;
     let mut new = Estimates {
-        transition,
-        emission,
-        initial,
-        end,
+        new_transition,
+        new_emission,
+        new_initial,
+        new_end,
         alpha,
         beta,
     };

@@ -1,4 +1,4 @@
-//! The C interface of the static library. A slice is a pointer and a length.
+//! The C interface of the proved archive, as include/wasnugram.h declares it. A slice is a pointer and a length.
 
 #[repr(C)]
 #[derive(Clone, Copy)]
@@ -8,17 +8,20 @@ pub struct Shape {
     pub ends: u8,
 }
 
+/// An answer as the library gives it (docs/RULES.md, section 3.1).
 #[repr(C)]
-#[derive(Clone, Copy)]
+#[derive(Clone, Copy, Debug)]
 pub struct Answer {
+    /// The refusal's number, 0 for done.
     pub refusal: u8,
+    /// The number of the table that the refusal speaks of.
     pub table: u8,
+    /// The place in it.
     pub place: usize,
+    /// The value; minus infinity on a refusal.
     pub value: f64,
 }
 
-// An archive that lacks a call leaves its declaration unused.
-#[allow(dead_code)]
 #[rustfmt::skip]
 extern "C" {
     pub fn wasnugram_viterbi(
@@ -71,9 +74,12 @@ extern "C" {
     pub fn wasnugram_exp(d: f64) -> Answer;
     pub fn wasnugram_ln(x: f64) -> Answer;
     pub fn wasnugram_ln_one_minus_exp(p: f64) -> Answer;
-    pub fn wasnugram_ln_sum_exp(xs: *const f64, length: usize) -> Answer;
-    pub fn wasnugram_ln_add_exp(first: f64, second: f64) -> Answer;
+    pub fn wasnugram_ln_sum_exp(probs: *const f64, probs_length: usize) -> Answer;
+    pub fn wasnugram_ln_add_exp(p0: f64, p1: f64) -> Answer;
     pub fn wasnugram_ln_sub_exp(p0: f64, p1: f64) -> Answer;
-    pub fn wasnugram_ln_cumsum_exp(xs: *const f64, length: usize, out: *mut f64, out_length: usize) -> Answer;
+    pub fn wasnugram_ln_cumsum_exp(
+        probs: *const f64, probs_length: usize,
+        sums: *mut f64, sums_length: usize,
+    ) -> Answer;
     pub fn wasnugram_cap_numerical_overshoot(value: f64, epsilon: f64) -> Answer;
 }

@@ -1,13 +1,30 @@
-//! The calls over slices with the answer as the library gives it: numbers of the rules and, on a refusal, minus
-//! infinity. For comparisons; `safe` has the calls for everyone else.
+//! The calls over slices with the [`Answer`] as the library gives it: the numbers of the rules, and minus infinity on a
+//! refusal. They are for comparisons to the last bit; the calls at the crate's root are for everyone else.
+//!
+//! ```
+//! use wasnugram::{raw, Model, Shape};
+//!
+//! let model = Model {
+//!     shape: Shape { states: 2, symbols: 2, ends: false },
+//!     transition: &[-1.0, -2.0, -2.0, -1.0],
+//!     emission: &[-1.0, -3.0, -3.0, -1.0],
+//!     initial: &[-1.0, -2.0],
+//!     end: &[0.0, 0.0],
+//! };
+//! let (mut path, mut values, mut from) = ([0; 3], [0.0; 6], [0; 6]);
+//! let done = raw::viterbi(&model, &[0, 1, 1], &mut path, &mut values, &mut from);
+//! assert_eq!((done.refusal, done.table, done.place, done.value), (0, 0, 0, -7.0));
+//! let refused = raw::forward(&model, &[], &mut values);
+//! assert_eq!((refused.refusal, refused.table, refused.place, refused.value), (4, 4, 0, f64::NEG_INFINITY));
+//! ```
 
 use crate::interface as c;
-use crate::Model;
+use crate::{Estimates, Model, Shape};
 
 pub use c::Answer;
 
-impl From<crate::Shape> for c::Shape {
-    fn from(shape: crate::Shape) -> Self {
+impl From<Shape> for c::Shape {
+    fn from(shape: Shape) -> Self {
         c::Shape {
             states: shape.states,
             symbols: shape.symbols,
@@ -41,170 +58,72 @@ macro_rules! call {
     }};
 }
 
-/// As `viterbi` of this crate.
-///
-/// ```
-/// # use wasnugram::{Model, Shape};
-/// # let model = Model {
-/// #     shape: Shape { states: 2, symbols: 2, ends: false },
-/// #     transition: &[-1.0, -2.0, -2.0, -1.0],
-/// #     emission: &[-1.0, -3.0, -3.0, -1.0],
-/// #     initial: &[-1.0, -2.0],
-/// #     end: &[0.0, 0.0],
-/// # };
-/// let (mut path, mut values, mut from) = ([0; 3], [0.0; 6], [0; 6]);
-/// let answer = wasnugram::raw::viterbi(&model, &[0, 1, 1], &mut path, &mut values, &mut from);
-/// assert_eq!((answer.refusal, answer.value), (0, -7.0));
-/// ```
+/// As [`viterbi`](crate::viterbi) of this crate.
 pub fn viterbi(model: &Model, samples: &[u16], path: &mut [u8], values: &mut [f64], from: &mut [u8]) -> Answer {
     call!(wasnugram_viterbi, model, samples, path, values, from)
 }
 
-/// As `forward` of this crate.
-///
-/// ```
-/// # use wasnugram::{Model, Shape};
-/// # let model = Model {
-/// #     shape: Shape { states: 2, symbols: 2, ends: false },
-/// #     transition: &[-1.0, -2.0, -2.0, -1.0],
-/// #     emission: &[-1.0, -3.0, -3.0, -1.0],
-/// #     initial: &[-1.0, -2.0],
-/// #     end: &[0.0, 0.0],
-/// # };
-/// let answer = wasnugram::raw::forward(&model, &[], &mut []);
-/// assert_eq!((answer.refusal, answer.table, answer.place), (4, 4, 0));
-/// ```
+/// As [`forward`](crate::forward) of this crate.
 pub fn forward(model: &Model, samples: &[u16], values: &mut [f64]) -> Answer {
     call!(wasnugram_forward, model, samples, values)
 }
 
-/// As `backward` of this crate.
-///
-/// ```
-/// # use wasnugram::{Model, Shape};
-/// # let model = Model {
-/// #     shape: Shape { states: 2, symbols: 2, ends: false },
-/// #     transition: &[-1.0, -2.0, -2.0, -1.0],
-/// #     emission: &[-1.0, -3.0, -3.0, -1.0],
-/// #     initial: &[-1.0, -2.0],
-/// #     end: &[0.0, 0.0],
-/// # };
-/// let answer = wasnugram::raw::backward(&model, &[], &mut []);
-/// assert_eq!((answer.refusal, answer.value), (0, f64::NEG_INFINITY));
-/// ```
+/// As [`backward`](crate::backward) of this crate.
 pub fn backward(model: &Model, samples: &[u16], values: &mut [f64]) -> Answer {
     call!(wasnugram_backward, model, samples, values)
 }
 
-/// As `baum_welch` of this crate.
-///
-/// ```
-/// # use wasnugram::{Model, Shape};
-/// # let model = Model {
-/// #     shape: Shape { states: 2, symbols: 2, ends: false },
-/// #     transition: &[-1.0, -2.0, -2.0, -1.0],
-/// #     emission: &[-1.0, -3.0, -3.0, -1.0],
-/// #     initial: &[-1.0, -2.0],
-/// #     end: &[0.0, 0.0],
-/// # };
-/// use wasnugram::{raw, Estimates};
-///
-/// let mut new = Estimates {
-///     transition: &mut [],
-///     emission: &mut [],
-///     initial: &mut [],
-///     end: &mut [],
-///     alpha: &mut [],
-///     beta: &mut [],
-/// };
-/// let answer = raw::baum_welch(&model, &[0], &mut new);
-/// assert_eq!((answer.refusal, answer.table, answer.place), (6, 5, 0));
-/// ```
-pub fn baum_welch(model: &Model, samples: &[u16], new: &mut crate::Estimates) -> Answer {
+/// As [`baum_welch`](crate::baum_welch) of this crate.
+pub fn baum_welch(model: &Model, samples: &[u16], new: &mut Estimates) -> Answer {
     call!(
         wasnugram_baum_welch,
         model,
         samples,
-        new.transition,
-        new.emission,
-        new.initial,
-        new.end,
+        new.new_transition,
+        new.new_emission,
+        new.new_initial,
+        new.new_end,
         new.alpha,
         new.beta
     )
 }
 
-/// As `exp` of this crate.
-///
-/// ```
-/// assert_eq!(wasnugram::raw::exp(0.0).value, 1.0);
-/// assert_eq!(wasnugram::raw::exp(1.0).refusal, 7);
-/// ```
+/// As [`exp`](crate::exp) of this crate.
 pub fn exp(d: f64) -> Answer {
     unsafe { c::wasnugram_exp(d) }
 }
 
-/// As `ln` of this crate.
-///
-/// ```
-/// assert_eq!(wasnugram::raw::ln(1.0).value, 0.0);
-/// assert_eq!(wasnugram::raw::ln(-1.0).refusal, 7);
-/// ```
+/// As [`ln`](crate::ln) of this crate.
 pub fn ln(x: f64) -> Answer {
     unsafe { c::wasnugram_ln(x) }
 }
 
-/// As `ln_one_minus_exp` of this crate.
-///
-/// ```
-/// assert_eq!(wasnugram::raw::ln_one_minus_exp(0.0).value, f64::NEG_INFINITY);
-/// ```
+/// As [`ln_one_minus_exp`](crate::ln_one_minus_exp) of this crate.
 pub fn ln_one_minus_exp(p: f64) -> Answer {
     unsafe { c::wasnugram_ln_one_minus_exp(p) }
 }
 
-/// As `ln_sum_exp` of this crate.
-///
-/// ```
-/// assert_eq!(wasnugram::raw::ln_sum_exp(&[]).value, f64::NEG_INFINITY);
-/// ```
-pub fn ln_sum_exp(xs: &[f64]) -> Answer {
-    unsafe { c::wasnugram_ln_sum_exp(xs.as_ptr(), xs.len()) }
+/// As [`ln_sum_exp`](crate::ln_sum_exp) of this crate.
+pub fn ln_sum_exp(probs: &[f64]) -> Answer {
+    unsafe { c::wasnugram_ln_sum_exp(probs.as_ptr(), probs.len()) }
 }
 
-/// As `ln_add_exp` of this crate.
-///
-/// ```
-/// assert_eq!(wasnugram::raw::ln_add_exp(0.0, f64::NEG_INFINITY).value, 0.0);
-/// ```
-pub fn ln_add_exp(first: f64, second: f64) -> Answer {
-    unsafe { c::wasnugram_ln_add_exp(first, second) }
+/// As [`ln_add_exp`](crate::ln_add_exp) of this crate.
+pub fn ln_add_exp(p0: f64, p1: f64) -> Answer {
+    unsafe { c::wasnugram_ln_add_exp(p0, p1) }
 }
 
-/// As `ln_sub_exp` of this crate.
-///
-/// ```
-/// assert_eq!(wasnugram::raw::ln_sub_exp(-2.0, -1.0).refusal, 10);
-/// ```
+/// As [`ln_sub_exp`](crate::ln_sub_exp) of this crate.
 pub fn ln_sub_exp(p0: f64, p1: f64) -> Answer {
     unsafe { c::wasnugram_ln_sub_exp(p0, p1) }
 }
 
-/// As `ln_cumsum_exp` of this crate.
-///
-/// ```
-/// let answer = wasnugram::raw::ln_cumsum_exp(&[0.0, 0.0], &mut [0.0]);
-/// assert_eq!((answer.refusal, answer.table, answer.place), (6, 5, 1));
-/// ```
-pub fn ln_cumsum_exp(xs: &[f64], out: &mut [f64]) -> Answer {
-    unsafe { c::wasnugram_ln_cumsum_exp(xs.as_ptr(), xs.len(), out.as_mut_ptr(), out.len()) }
+/// As [`ln_cumsum_exp`](crate::ln_cumsum_exp) of this crate.
+pub fn ln_cumsum_exp(probs: &[f64], sums: &mut [f64]) -> Answer {
+    unsafe { c::wasnugram_ln_cumsum_exp(probs.as_ptr(), probs.len(), sums.as_mut_ptr(), sums.len()) }
 }
 
-/// As `cap_numerical_overshoot` of this crate.
-///
-/// ```
-/// assert_eq!(wasnugram::raw::cap_numerical_overshoot(1.0, 0.5).refusal, 11);
-/// ```
+/// As [`cap_numerical_overshoot`](crate::cap_numerical_overshoot) of this crate.
 pub fn cap_numerical_overshoot(value: f64, epsilon: f64) -> Answer {
     unsafe { c::wasnugram_cap_numerical_overshoot(value, epsilon) }
 }

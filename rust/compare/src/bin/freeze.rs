@@ -1,15 +1,17 @@
-//! `freeze FILE`: writes the frozen list (FROZEN.md), after holding each of its answers against bio's.
+//! `freeze FILE`: writes the frozen list (FROZEN.md), after holding each of its answers that bio can give against bio's.
 
 use compare::case::{self, Case, Kind, Sizes};
 use compare::damage;
 use compare::engine::REFERENCE;
 use compare::frozen::{write, Frozen, FILL, NAMES};
+use compare::grids;
 use compare::leaves::{argument, near, slice};
 use compare::lent::{Call, Output, CALLS};
 use compare::likeness;
 use compare::random::Random;
 use compare::verdict::Verdict;
 use oracle::Modes;
+use reference::answer::DONE;
 use reference::{leaves, Answer, Shape};
 use std::process::ExitCode;
 
@@ -34,6 +36,8 @@ fn main() -> ExitCode {
     list.damaged();
     list.kernels();
     list.leaves();
+    list.grids();
+    list.altered();
     println!("{} cases", list.cases.len());
     match std::fs::write(&path, write(&list.cases)) {
         Ok(()) => ExitCode::SUCCESS,
@@ -153,8 +157,7 @@ impl List {
                 ..zeros(1)
             };
             self.freeze(call, &too_many, &call.needed(&zeros(1)));
-            let refusals = [1, 2, 4, 5, 6, 7, 8].into_iter().flat_map(|refusal| [refusal; 4]);
-            for refusal in refusals.filter(|refusal| *refusal != 4 || call.needs_samples()) {
+            for refusal in damage::refusals(call).flat_map(|refusal| [refusal; 4]) {
                 let sizes = Sizes {
                     states: 1 + self.random.below(3),
                     symbols: 1 + self.random.below(3),
@@ -213,6 +216,26 @@ impl List {
         self.leaves_on(0.0, -0.0, &[-3.0, -1.0, -2.0, -1.0]);
         self.leaves_on(-0.0, 0.0, &[f64::NEG_INFINITY, -700.0, -1.0]);
         self.leaves_on(f64::NEG_INFINITY, -1.0, &[-1e308, -1.0, 1e308]);
+    }
+
+    /// exp and ln on dense grids.
+    fn grids(&mut self) {
+        for d in grids::exp_arguments() {
+            self.cases.push(Frozen::of_leaf(NAMES[4], &[d], &leaves::exp(d), None));
+        }
+        for x in grids::ln_arguments() {
+            self.cases.push(Frozen::of_leaf(NAMES[5], &[x], &leaves::ln(x), None));
+        }
+    }
+
+    /// The first case of each call that is done, with one fault at a time.
+    fn altered(&mut self) {
+        let is_done = |case: &&Frozen| case.answer[0] == u64::from(DONE);
+        let done: Vec<Frozen> = self.cases.iter().filter(is_done).cloned().collect();
+        for call in 0..NAMES.len() as u64 {
+            let first = done.iter().find(|case| case.call == call).expect("a case that is done");
+            self.cases.extend(first.altered());
+        }
     }
 
     fn leaves_on(&mut self, x: f64, y: f64, xs: &[f64]) {

@@ -12,11 +12,11 @@ pub const LIBRARY: Engine = Engine {
         exp: |d| answer(raw::exp(d)),
         ln: |x| answer(raw::ln(x)),
         ln_one_minus_exp: |p| answer(raw::ln_one_minus_exp(p)),
-        ln_add_exp: |first, second| answer(raw::ln_add_exp(first, second)),
+        ln_add_exp: |p0, p1| answer(raw::ln_add_exp(p0, p1)),
         ln_sub_exp: |p0, p1| answer(raw::ln_sub_exp(p0, p1)),
         cap_numerical_overshoot: |value, epsilon| answer(raw::cap_numerical_overshoot(value, epsilon)),
-        ln_sum_exp: |xs| answer(raw::ln_sum_exp(xs)),
-        ln_cumsum_exp: |xs, out| answer(raw::ln_cumsum_exp(xs, out)),
+        ln_sum_exp: |probs| answer(raw::ln_sum_exp(probs)),
+        ln_cumsum_exp: |probs, sums| answer(raw::ln_cumsum_exp(probs, sums)),
     },
 };
 
@@ -59,10 +59,10 @@ fn model(case: &Case) -> wasnugram::Model<'_> {
 fn lent(outputs: &mut [Output]) -> wasnugram::Estimates<'_> {
     let new = estimates(outputs);
     wasnugram::Estimates {
-        transition: new.transition,
-        emission: new.emission,
-        initial: new.initial,
-        end: new.end,
+        new_transition: new.new_transition,
+        new_emission: new.new_emission,
+        new_initial: new.new_initial,
+        new_end: new.new_end,
         alpha: new.alpha,
         beta: new.beta,
     }

@@ -1,6 +1,6 @@
-//! One pass of Baum-Welch.
+//! One training pass, as RULES 7 has it.
 
-use crate::answer::{Answer, NO_MASS};
+use crate::answer::{Answer, ZERO_MASS};
 use crate::kernels::exp;
 use crate::likelihood::{backward_unchecked, forward_unchecked};
 use crate::model::{check, Empty, Model, Output};
@@ -8,10 +8,10 @@ use crate::sums::{ln_add_exp, ln_sub_exp, ln_sum_exp};
 
 /// The lent outputs of a pass: the four new tables, then two scratch tables of T·S.
 pub struct Estimates<'a> {
-    pub transition: &'a mut [f64],
-    pub emission: &'a mut [f64],
-    pub initial: &'a mut [f64],
-    pub end: &'a mut [f64],
+    pub new_transition: &'a mut [f64],
+    pub new_emission: &'a mut [f64],
+    pub new_initial: &'a mut [f64],
+    pub new_end: &'a mut [f64],
     pub alpha: &'a mut [f64],
     pub beta: &'a mut [f64],
 }
@@ -45,10 +45,10 @@ pub fn baum_welch(model: &Model, samples: &[u16], new: &mut Estimates) -> Answer
             model.shape.cells(samples.len()),
         ];
         let lengths = [
-            new.transition.len(),
-            new.emission.len(),
-            new.initial.len(),
-            new.end.len(),
+            new.new_transition.len(),
+            new.new_emission.len(),
+            new.new_initial.len(),
+            new.new_end.len(),
             new.alpha.len(),
             new.beta.len(),
         ];
@@ -77,12 +77,12 @@ pub fn baum_welch_unchecked(model: &Model, samples: &[u16], new: &mut Estimates)
     };
     pass.probx = pass.likelihood();
     let answer = match pass.masses() {
-        Err(place) => Answer::refused(NO_MASS, 0, place),
+        Err(place) => Answer::refused(ZERO_MASS, 0, place),
         Ok(masses) => {
-            pass.write_transition(&masses, new.transition);
-            pass.write_emission(&masses, new.emission);
-            pass.write_initial(new.initial);
-            pass.write_end(&masses, new.end);
+            pass.write_transition(&masses, new.new_transition);
+            pass.write_emission(&masses, new.new_emission);
+            pass.write_initial(new.new_initial);
+            pass.write_end(&masses, new.new_end);
             Answer::done(pass.probx)
         }
     };
