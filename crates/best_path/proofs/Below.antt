@@ -3,11 +3,12 @@ use Prim.Native.Nat.{ℕ, _<_}
 use mathlib.Core.Path.{_≡_, refl}
 use native.Mathlib.Omega.{arith}
 use lib.Dec.{T}
-use lib.Ieee.{Float, le}
-use Rattle.floats.proofs.Order.{le-left, le-self, le-le}
+use lib.Ieee.{le}
+use Rattle.floats.proofs.Order.{le-le}
 use Rattle.floats.proofs.Ceiling.{most}
 use Rattle.model.specs.Model.{Model}
 use Rattle.model.proofs.Low.{Low}
+use Rattle.best_path.proofs.Bounds.{entry-itself}
 
 -- every entry of m is at most that of h
 pub record Below (n : ℕ) (m h : Model) : Type 0 where
@@ -23,14 +24,11 @@ below-itself n m low =
     record {
       states = refl;
       ends = refl;
-      initial = λ (j : ℕ) s. itself (m .initial j) (low .initial j s);
-      transition = λ (k j : ℕ) i s. itself (m .transition k j) (low .transition k j i s);
-      emission = λ (t j : ℕ) l s. itself (m .emission t j) (low .emission t j l s);
-      end = λ (j : ℕ) s. itself (m .end j) (low .end j s);
+      initial = λ (j : ℕ) s. entry-itself (m .initial j) (low .initial j s);
+      transition = λ (k j : ℕ) i s. entry-itself (m .transition k j) (low .transition k j i s);
+      emission = λ (t j : ℕ) l s. entry-itself (m .emission t j) (low .emission t j l s);
+      end = λ (j : ℕ) s. entry-itself (m .end j) (low .end j s);
     }
-  where
-    itself : (x : Float) → T (le x most) → T (le x x)
-    itself x h = le-self x (le-left x most h)
 
 -- what is below a model has a state where that has one
 pub some-below : (n : ℕ) (m h : Model) → Below n m h → 0 < h .states → 0 < m .states

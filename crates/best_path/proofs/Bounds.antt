@@ -4,14 +4,19 @@ use native.Mathlib.Omega.{arith}
 use lib.Dec.{T}
 use lib.Ieee.{Float, le}
 use Rattle.floats.specs.Float.{_⊕_, capped}
+use Rattle.floats.proofs.Order.{le-left, le-self}
 use Rattle.floats.proofs.Ceiling.{lid, most, lid-add, most-lid, lid-capped}
 use Rattle.model.specs.Model.{Model}
 use Rattle.model.proofs.Low.{Low}
 use Rattle.best_path.specs.Walk.{cell, value, from}
 use Rattle.best_path.proofs.States.{from-below}
 
+-- an entry of a table is neither NaN nor +∞, and at most itself
 pub entry-capped : (x : Float) → T (le x most) → T (capped x)
 entry-capped x h = lid-capped x (most-lid x h)
+
+pub entry-itself : (x : Float) → T (le x most) → T (le x x)
+entry-itself x h = le-self x (le-left x most h)
 
 module _ (n : ℕ) (m : Model) (some : 0 < m .states) (low : Low m n) where
   pub value-lid : (t j : ℕ) → t < n → j < m .states → T (le (value m t j) lid)

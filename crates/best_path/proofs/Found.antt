@@ -12,7 +12,7 @@ use Rattle.lists.proofs.Over.{length-tab, getD-tab}
 use Rattle.lists.proofs.Rows.{row-in, place-back}
 use Rattle.model.specs.Model.{Model}
 use Rattle.best_path.specs.Best.{greatest}
-use Rattle.best_path.specs.Walk.{closed, pathTo, value, from, lastState, bestPath, bestValue}
+use Rattle.best_path.specs.Walk.{ended, closed, pathTo, value, from, lastState, bestPath, bestValue}
 use Rattle.best_path.specs.inner.Back.{fromAt}
 use Rattle.best_path.proofs.WayBack.{path-same}
 use Rattle.best_path.proofs.Steps.{at-row, last-in-row, value-of, path-of}
@@ -37,14 +37,15 @@ module _ (m : Model) (n : ℕ) (some : 0 < m .states) (sample : 0 < n) where
         rw (add-sub-cancel-left lastStart (m .states))
         (row-in n (n - 1) (m .states) _ was is (λ (t : ℕ). length-tab (m .states) _) laid last-time)
 
-    pub last-found : (j : ℕ) → j ≡ greatest (length lastRow) (at lastRow) → j ≡ lastState m (n - 1)
+    pub last-found : (j : ℕ) → j ≡ greatest (length lastRow) (λ (k : ℕ). ended (m .ends) (m .end k) (at lastRow k)) → j ≡ lastState m (n - 1)
     last-found j e = e ∙ last-in-row m (n - 1) _ last-row
 
-    pub value-found : (j : ℕ) → j ≡ lastState m (n - 1) → at lastRow j ≡ bestValue m n
-    unfolding closed
+    pub value-found : (j : ℕ) → j ≡ lastState m (n - 1) → ended (m .ends) (m .end j) (at lastRow j) ≡ bestValue m n
     value-found j e =
         let h : j < m .states = rw e (last-below m some (n - 1)) in
-        at-row m (n - 1) _ last-row j h ∙ ap (λ (k : ℕ). value m (n - 1) k) e ∙ sym (value-of m n sample)
+        ap (ended (m .ends) (m .end j)) (at-row m (n - 1) _ last-row j h)
+        ∙ ap (λ (k : ℕ). closed m k (value m (n - 1) k)) e
+        ∙ sym (value-of m n sample)
 
   -- ---- a table of predecessors
   module _ (was is : List ℕ) (laid : is ≡ over 0 (table n (m .states) (from m)) was) where

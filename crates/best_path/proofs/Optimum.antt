@@ -16,7 +16,7 @@ use Rattle.best_path.specs.Score.{sumTo, score}
 use Rattle.best_path.proofs.Best.{Wins, winner, winner-is}
 use Rattle.best_path.proofs.States.{from-below, last-below}
 use Rattle.best_path.proofs.Ranks.{place, Placed, placed-sum, le-place, to-le, rankOf, rank-rule, rank-le}
-use Rattle.best_path.proofs.Ending.{EndBelow, closed-mono, closed-placed}
+use Rattle.best_path.proofs.Ending.{EndBelow, closed-mono, ended-placed}
 use Rattle.best_path.proofs.Bounds.{entry-capped, value-capped, sum-capped}
 use Rattle.best_path.proofs.Below.{Below, some-below}
 
@@ -89,7 +89,7 @@ module _ (n : ℕ) (h : Model) (some : 0 < h .states) (low : Low h (suc n)) wher
   value-placed (suc t) j l s = placed-sum _ (h .emission (suc t) j) (best-sum-capped t j l s) (emission-capped (suc t) j l s)
 
   pub last-placed : (j : ℕ) → j < h .states → Placed (closed h j (value h n j))
-  last-placed j s = closed-placed h j (value h n j) (end-capped j s) (values-capped n j (le-refl n) s) (value-placed n j (le-refl n) s)
+  last-placed j s = ended-placed (h .ends) (h .end j) (value h n j) (end-capped j s) (values-capped n j (le-refl n) s) (value-placed n j (le-refl n) s)
 
   last-rule : (b k : ℕ) → b < h .states → k < h .states
       → le (closed h b (value h n b)) (closed h k (value h n k)) ≡ leb (lastRanks h n b) (lastRanks h n k)

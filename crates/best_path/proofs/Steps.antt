@@ -15,7 +15,7 @@ use Rattle.model.specs.Model.{Model, tabled}
 use Rattle.emission.specs.inner.Row.{firstRow}
 use Rattle.emission.proofs.FirstRow.{first-row-is}
 use Rattle.best_path.specs.Best.{predecessor, greatest}
-use Rattle.best_path.specs.Walk.{cell, closed, pathTo, value, from, lastState, bestPath, bestValue}
+use Rattle.best_path.specs.Walk.{cell, ended, closed, pathTo, value, from, lastState, bestPath, bestValue}
 use Rattle.best_path.specs.inner.Step.{nextFrom, nextValue, Ranked, Stepped}
 use Rattle.best_path.specs.inner.Rows.{firstFrom, RowStored}
 use Rattle.best_path.proofs.Best.{best-below, best-same}
@@ -53,10 +53,12 @@ module _ (m : Model) (t : ℕ) (row : List Float) (is : row ≡ tab (m .states) 
   pub at-row : (k : ℕ) → k < m .states → at row k ≡ value m t k
   at-row k h = rw is (getD-tab (m .states) _ k minusInfinity h)
 
-  -- the end table is not used: the last state is the greatest of the row
-  pub last-in-row : greatest (length row) (at row) ≡ lastState m t
-  unfolding lastState closed
-  last-in-row = rw (ap length is ∙ length-tab (m .states) _) (greatest-same (m .states) (at row) (value m t) at-row)
+  -- the last state is the greatest of the row, each ended by its end entry
+  pub last-in-row : greatest (length row) (λ (j : ℕ). ended (m .ends) (m .end j) (at row j)) ≡ lastState m t
+  unfolding lastState
+  last-in-row =
+      rw (ap length is ∙ length-tab (m .states) _)
+      (greatest-same (m .states) _ _ (λ (j : ℕ) h. ap (ended (m .ends) (m .end j)) (at-row j h)))
 
 -- ---- the row after it, of tables in memory
 module _ (states : ℕ) (transition initial : List Float) (e : ℕ → ℕ → Float) (ends : Bool) (end : ℕ → Float) (some : 0 < states) (t : ℕ)

@@ -1,5 +1,6 @@
 -- Viterbi's walk (RULES 6.1; Rabiner 1989, (32) to (35)), over any model, each addition rounded once and in the written order.
 use Prim.Native.Nat.{ℕ, zero, suc}
+use mathlib.Core.Bool.{Bool, cond}
 use mathlib.Core.List.{List, [], _∷_, _++_}
 use lib.Ieee.{Float}
 use Rattle.floats.specs.Float.{_⊕_, minusInfinity}
@@ -10,9 +11,14 @@ use Rattle.best_path.specs.Best.{predecessor, greatest}
 unfoldable pub cell : ℕ → (ℕ → Float) → (ℕ → Float) → Float → Float
 cell S v a e = (v (predecessor S v a) ⊕ a (predecessor S v a)) ⊕ e
 
--- how a path's score ends, where x is the score at its last sample and j its last state: the end table is not used
-unfoldable pub closed : Model → ℕ → Float → Float
-closed m j x = x
+-- how a path's score ends, where x is the score at its last sample: with an end state the last state's end entry e is added, last of all.
+-- Without one nothing is added, since -0.0 + 0.0 is +0.0.
+unfoldable pub ended : Bool → Float → Float → Float
+ended ends e x = cond ends (x ⊕ e) x
+
+-- in a model, where j is the last state
+abbrev pub closed : Model → ℕ → Float → Float
+closed m j x = ended (m .ends) (m .end j) x
 
 -- the path that is in state j at time t, where from u k is the state before state k at time u
 unfoldable pub pathTo : (ℕ → ℕ → ℕ) → ℕ → ℕ → List ℕ
@@ -30,7 +36,7 @@ module _ (m : Model) where
   from zero j = j
   from (suc t) j = predecessor (m .states) (value t) (λ (k : ℕ). m .transition k j)
 
-  -- the last state is the highest-numbered of the greatest, where the last sample is at time t
+  -- the last state is the highest-numbered of the greatest scores, where the last sample is at time t
   unfoldable pub lastState : ℕ → ℕ
   lastState t = greatest (m .states) (λ (j : ℕ). closed m j (value t j))
 

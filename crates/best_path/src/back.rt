@@ -6,28 +6,29 @@ ghost use lib.ListN.{length};
 ghost use Rattle.floats.specs.Float.{at};
 ghost use Rattle.lists.specs.Lists.{over};
 ghost use Rattle.best_path.specs.Best.{greatest};
-ghost use Rattle.best_path.specs.Walk.{pathTo};
+ghost use Rattle.best_path.specs.Walk.{ended, pathTo};
 ghost use Rattle.best_path.specs.inner.Back.{fromAt, Traceable};
 
-// The score of the best path that ends in state k, where `row` is the last row: its value as it stands, for the end table is not used. The
-// caller shows that the row has state k.
-pub fn close(row: &[f64], k: usize) -> f64
-    requires { ⌜ k < length (now row) ⌝ }
-    ensures { λ r. ⌜ r ≡ at (now (row .entry)) k ⌝ }
+// The score of the best path that ends in state k, where `row` is the last row: its value, and with an end state its end entry, which is
+// added last. The caller shows that the row and the end table have state k.
+pub fn close(ends: bool, end: &[f64], row: &[f64], k: usize) -> f64
+    requires { ⌜ (k < length (now end)) × (k < length (now row)) ⌝ }
+    ensures { λ r. ⌜ r ≡ ended ends (at (now (end .entry)) k) (at (now (row .entry)) k) ⌝ }
 {
-    entry(row, k)
+    let value = entry(row, k);
+    if ends { value + entry(end, k) } else { value }
 }
 
-// The state in which the best path ends, where `row` is the last row: the highest-numbered of the greatest. The caller shows that there is
-// a state.
-pub fn last_state(row: &[f64]) -> usize
-    requires { ⌜ 0 < length (now row) ⌝ }
-    ensures { λ r. ⌜ r ≡ greatest (length (now (row .entry))) (at (now (row .entry))) ⌝ }
+// The state in which the best path ends, where `row` is the last row: the highest-numbered of the greatest scores. The caller shows that
+// there is a state, and an end entry for each.
+pub fn last_state(ends: bool, end: &[f64], row: &[f64]) -> usize
+    requires { ⌜ (0 < length (now row)) × (length (now end) ≡ length (now row)) ⌝ }
+    ensures { λ r. ⌜ r ≡ greatest (length (now (row .entry))) (λ j. ended ends (at (now (end .entry)) j) (at (now (row .entry)) j)) ⌝ }
 {
     let mut best = 0;
     let mut k = 0;
     while k < row.len() {
-        if close(row, best) <= close(row, k) {
+        if close(ends, end, row, best) <= close(ends, end, row, k) {
             best = k;
         }
         k += 1;

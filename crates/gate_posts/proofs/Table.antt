@@ -15,8 +15,7 @@ use Rattle.probs.specs.Calls.{unlessNan}
 use Rattle.model.specs.Good.{good, goodEnd}
 use Rattle.checks.specs.Checks.{shapeTests, countTests, roomTests, entryTests, sampleTests, testsOf}
 use Rattle.best_path.specs.Best.{bestOf, ranksAtLeast, predecessor, greatest}
-use Rattle.best_path.specs.Walk as Walk
-use Rattle.best_path.specs.Walk.{cell, pathTo, value, from, lastState, bestPath, bestValue}
+use Rattle.best_path.specs.Walk.{cell, ended, pathTo, value, from, lastState, bestPath, bestValue}
 use Rattle.gate_posts.specs.Models.{minus, least}
 use Rattle.gate_posts.specs.Table.{Example, Holds, AllHold, answer, path, gatePosts, GatePostsHold}
 use Rattle.gate_posts.proofs.Kernels.{ln-two, ln-half}
@@ -29,14 +28,15 @@ holds e a p = record { answerIs = a; pathIs = p }
 
 pub gate-posts : GatePostsHold
 unfolding gatePosts minus least over testsOf shapeTests countTests roomTests entryTests sampleTests firstOf firstBad good goodEnd
-    isPlusZero bestOf ranksAtLeast predecessor greatest cell Walk.closed pathTo value from lastState bestPath bestValue unlessNan lnSum
+    isPlusZero bestOf ranksAtLeast predecessor greatest cell ended pathTo value from lastState bestPath bestValue unlessNan lnSum
     grown peak raised isInfinite lnSub relativeEq ofBits ofInt toBits round size add sum le lt eq isNan neg
 gate-posts =
-    let sums : AllHold (drop 17 gatePosts) = (holds _ refl refl, (holds _ refl refl, tt)) in
-    let logs : AllHold (drop 14 gatePosts) = (holds _ (ap done ln-one) refl, (holds _ (ap done ln-two) refl, (holds _ (ap done ln-half) refl, sums))) in
-    let exps : AllHold (drop 12 gatePosts) = (holds _ (ap done (exp-zero false)) refl, (holds _ (ap done exp-minus-infinity) refl, logs)) in
-    let pass : AllHold (drop 11 gatePosts) = (holds _ no-mass refl, exps) in
-    let walks : AllHold (drop 9 gatePosts) = (holds _ (ap done forward-value) refl, (holds _ (ap done backward-value) refl, pass)) in
-    let z : AllHold (drop 7 gatePosts) = (holds _ refl refl, (holds _ refl refl, walks)) in
-    let p : AllHold (drop 3 gatePosts) = (holds _ refl refl, (holds _ refl refl, (holds _ refl refl, (holds _ refl refl, z)))) in
+    let sums : AllHold (drop 21 gatePosts) = (holds _ refl refl, (holds _ refl refl, tt)) in
+    let logs : AllHold (drop 18 gatePosts) = (holds _ (ap done ln-one) refl, (holds _ (ap done ln-two) refl, (holds _ (ap done ln-half) refl, sums))) in
+    let exps : AllHold (drop 16 gatePosts) = (holds _ (ap done (exp-zero false)) refl, (holds _ (ap done exp-minus-infinity) refl, logs)) in
+    let pass : AllHold (drop 15 gatePosts) = (holds _ no-mass refl, exps) in
+    let walks : AllHold (drop 13 gatePosts) = (holds _ (ap done forward-value) refl, (holds _ (ap done backward-value) refl, pass)) in
+    let z : AllHold (drop 11 gatePosts) = (holds _ refl refl, (holds _ refl refl, walks)) in
+    let e : AllHold (drop 7 gatePosts) = (holds _ refl refl, (holds _ refl refl, (holds _ refl refl, (holds _ refl refl, z)))) in
+    let p : AllHold (drop 3 gatePosts) = (holds _ refl refl, (holds _ refl refl, (holds _ refl refl, (holds _ refl refl, e)))) in
     (holds _ refl refl, (holds _ refl refl, (holds _ refl refl, p)))

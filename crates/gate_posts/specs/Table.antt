@@ -1,8 +1,8 @@
--- The fourteen gate-post examples of RULES 9 (P1 to P6, Z1 to Z4, K1, K2, S1, S2) as a single table, `gatePosts`, with a single statement,
--- `GatePostsHold`: the definitions that the public calls promise give every one of them.
+-- The seventeen gate-post examples of RULES 9 (P1 to P6, E1 to E3, Z1 to Z4, K1, K2, S1, S2) as a single table, `gatePosts`, with a single
+-- statement, `GatePostsHold`: the definitions that the public calls promise give every one of them.
 use Prim.Native.Nat.{ℕ, _*_}
 use mathlib.Core.Path.{_≡_}
-use mathlib.Core.Bool.{false, cond}
+use mathlib.Core.Bool.{true, false, cond}
 use mathlib.Core.List.{List, [], _∷_}
 use lib.IntN.{pos, negsuc}
 use lib.ListN.{replicate}
@@ -22,7 +22,7 @@ use Rattle.viterbi.specs.Call as Viterbi
 use Rattle.likelihood.specs.Call.{forwardAnswer, backwardAnswer}
 use Rattle.baum_welch.specs.Call as BaumWelch
 use Rattle.baum_welch.specs.Call.{massAnswer, walksOf}
-use Rattle.gate_posts.specs.Models.{minus, least, modelP, changedP, modelZ, changedZ}
+use Rattle.gate_posts.specs.Models.{minus, least, modelP, changedP, endingP, modelZ, changedZ, minusZeros}
 
 -- a call, with outputs of exactly the room that it needs
 pub data Call : Type 0 where
@@ -106,6 +106,13 @@ gatePosts =
     ∷ refuses (changedP nan (minus 1) (0 ∷ 1 ∷ 1 ∷ [])) (refuse NotGood 0 0)
     ∷ refuses (changedP (minus 1) least (0 ∷ 1 ∷ 1 ∷ [])) (refuse NotGood 1 3)
     ∷ decodes (changedP (minus 1) (neg nought) (0 ∷ 1 ∷ 1 ∷ [])) (minus 5) (0 ∷ 1 ∷ 1 ∷ [])
+    -- E1: with an end state the path of P1 ends in the other state, since the way out of state 1 is dear. E2: of equal sums the
+    -- highest-numbered state's is taken
+    ∷ decodes (endingP (nought ∷ minus 4 ∷ []) (0 ∷ 1 ∷ 1 ∷ [])) (minus 10) (0 ∷ 1 ∷ 0 ∷ [])
+    ∷ decodes (endingP (minus 1 ∷ minus 4 ∷ []) (0 ∷ 1 ∷ 1 ∷ [])) (minus 11) (0 ∷ 1 ∷ 1 ∷ [])
+    -- E3: without an end state nothing is added, so that -0.0 stays; with one +0.0 is added to it
+    ∷ decodes (minusZeros false (0 ∷ [])) (neg nought) (1 ∷ [])
+    ∷ decodes (minusZeros true (0 ∷ [])) nought (1 ∷ [])
     -- Z1: of equal paths the one of the highest states is given
     ∷ decodes (modelZ (0 ∷ 0 ∷ [])) nought (1 ∷ 1 ∷ [])
     -- Z3: no path is possible

@@ -8,7 +8,7 @@ use lib.Ieee.{Float, fin, add, le, eq}
 use Rattle.floats.specs.Float.{nought, minusInfinity}
 use Rattle.model.specs.Model.{Model}
 use Rattle.best_path.specs.Best.{bestOf, ranksAtLeast, predecessor, greatest}
-use Rattle.best_path.specs.Walk.{cell, closed, value, lastState, bestValue}
+use Rattle.best_path.specs.Walk.{cell, ended, value, lastState, bestValue}
 use Rattle.best_path.specs.Score.{stateAt, sumTo, score}
 
 -- two states that never change to one another, and emissions of 2^1023
@@ -31,5 +31,5 @@ high =
 
 -- the states 0, 0, 1 have the score (+∞) + (-∞), NaN, which is not at most the value
 pub a-bound-is-needed : T (not (le (score high (stateAt (0 ∷ 0 ∷ 1 ∷ [])) 2) (bestValue high 3)))
-unfolding score sumTo bestValue closed lastState greatest bestOf value cell predecessor ranksAtLeast add le eq
+unfolding score sumTo bestValue ended lastState greatest bestOf value cell predecessor ranksAtLeast add le eq
 a-bound-is-needed = tt

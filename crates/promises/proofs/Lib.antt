@@ -3,6 +3,7 @@ pub mod Tables
 pub mod BestPath
 pub mod Left
 pub mod Calls
+pub mod WayOut
 pub mod Bound
 pub mod Unique
 pub mod Always

@@ -23,9 +23,10 @@ use Rattle.model.proofs.Low.{Low, accepted-low}
 use Rattle.checks.specs.Faults.{Fault}
 use Rattle.checks.specs.Exactly.{Exactly}
 use Rattle.checks.proofs.Done.{let-through}
-use Rattle.best_path.specs.Walk.{value, closed, lastState, bestValue}
+use Rattle.best_path.specs.Walk.{value, lastState, bestValue}
 use Rattle.best_path.proofs.States.{last-below}
-use Rattle.best_path.proofs.Bounds.{value-capped}
+use Rattle.best_path.proofs.Ending.{ended-lid}
+use Rattle.best_path.proofs.Bounds.{value-lid, value-capped}
 use Rattle.viterbi.specs.Call as Viterbi
 use Rattle.viterbi.specs.Call.{Decoded}
 use Rattle.likelihood.specs.Walk.{alpha, forwardValue, beta, backwardValue}
@@ -62,9 +63,12 @@ wiped-capped b n o e h t =
 -- ---- the values of the walks
 module _ (m : Model) where
   best-capped : (n : ℕ) → 0 < m .states → Low m n → Dec.T (capped (bestValue m n))
-  unfolding bestValue closed
+  unfolding bestValue
   best-capped zero some low = tt
-  best-capped (suc t) some low = value-capped (suc t) m some low t (lastState m t) (lt-suc-self t) (last-below m some t)
+  best-capped (suc t) some low =
+      let j = lastState m t in
+      let s = last-below m some t in
+      lid-capped _ (ended-lid (m .ends) (m .end j) (value m t j) (low .end j s) (value-lid (suc t) m some low t j (lt-suc-self t) s))
 
   forward-capped : (n : ℕ) → Low m n → Dec.T (capped (forwardValue m n))
   forward-capped zero low = unfold forwardValue in tt

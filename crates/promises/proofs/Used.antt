@@ -2,6 +2,7 @@
 use Prim.Native.Nat.{ℕ, zero, suc, _-_, _≤_, _<_}
 use mathlib.Core.Path.{_≡_, refl, sym, ap, _∙_}
 use mathlib.Core.Logic.{⊎-elim}
+use mathlib.Core.Bool.{Bool, true, false, cond}
 use mathlib.Core.List.{List, [], _∷_, _++_, foldl, foldl-append}
 use native.Mathlib.Nat.{not-suc-le-zero, eq-or-lt-of-le, le-of-suc-le-suc}
 use native.Mathlib.Omega.{arith}
@@ -12,15 +13,20 @@ use Rattle.floats.specs.Float.{_⊕_}
 use Rattle.model.specs.Lent as Lent
 use Rattle.model.specs.Lent.{Lent}
 use Rattle.model.specs.Model.{Model, modelOf}
-use Rattle.best_path.specs.Walk.{closed}
+use Rattle.best_path.specs.Walk.{ended, closed}
 use Rattle.best_path.specs.Score.{stateAt, sumTo, score}
 use Rattle.best_path.proofs.Still.{Agree}
 use Rattle.promises.specs.BestPath.{usedTo, usedAtEnd, added, ScoreAddsWhatIsUsed}
 
 -- ---- the end of a path: the score ends with what the last state uses there, and in the same way where that is the same
+ended-adds : (ends : Bool) (e x : Float) → ended ends e x ≡ foldl _⊕_ x (cond ends (e ∷ []) [])
+unfolding ended
+ended-adds true e x = refl
+ended-adds false e x = refl
+
 end-adds : (m : Model) (j : ℕ) (x : Float) → closed m j x ≡ foldl _⊕_ x (usedAtEnd m j)
-unfolding closed usedAtEnd
-end-adds m j x = refl
+unfolding usedAtEnd
+end-adds m j x = ended-adds (m .ends) (m .end j) x
 
 end-same : (m h : Model) (j : ℕ) → usedAtEnd m j ≡ usedAtEnd h j → (x : Float) → closed m j x ≡ closed h j x
 end-same m h j e x = end-adds m j x ∙ ap (foldl _⊕_ x) e ∙ sym (end-adds h j x)

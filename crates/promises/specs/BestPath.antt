@@ -2,6 +2,7 @@
 -- proofs/ has that each meets it.
 use Prim.Native.Nat.{ℕ, zero, suc, _-_, _<_}
 use mathlib.Core.Path.{_≡_}
+use mathlib.Core.Bool.{cond}
 use mathlib.Core.List.{List, [], _∷_, _++_, foldl}
 use lib.Dec.{T}
 use lib.ListN.{length}
@@ -26,9 +27,9 @@ unfoldable pub usedTo : Model → (ℕ → ℕ) → ℕ → List Float
 usedTo m p zero = m .initial (p 0) ∷ m .emission 0 (p 0) ∷ []
 usedTo m p (suc t) = usedTo m p t ++ (m .transition (p t) (p (suc t)) ∷ m .emission (suc t) (p (suc t)) ∷ [])
 
--- and what the last state j uses besides: the end table is not used (RULES 6.1)
+-- and what the last state j uses besides: its end entry, where there is an end state
 unfoldable pub usedAtEnd : Model → ℕ → List Float
-usedAtEnd m j = []
+usedAtEnd m j = cond (m .ends) (m .end j ∷ []) []
 
 -- the entries that a path uses
 abbrev pub used : Lent → List ℕ → List Float

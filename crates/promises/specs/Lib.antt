@@ -1,5 +1,6 @@
 pub mod BestPath
 pub mod Calls
+pub mod WayOut
 pub mod Unique
 pub mod Always
 pub mod Likelihood

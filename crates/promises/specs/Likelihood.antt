@@ -1,7 +1,5 @@
 -- What forward and Viterbi say of each other, as definitions: the likelihood counts every path, and the best one is among them.
 use Prim.Native.Nat.{ℕ, _<_}
-use mathlib.Core.Path.{_≡_}
-use mathlib.Core.Bool.{false}
 use lib.Dec.{T}
 use lib.Ieee.{le}
 use Rattle.model.specs.Lent as Lent
@@ -15,8 +13,6 @@ use Rattle.likelihood.specs.Walk.{alpha, forwardValue}
 abbrev pub ForwardIsAbove : Type 0
 ForwardIsAbove = (l : Lent) → Accepted l → (t j : ℕ) → t < Lent.T l → j < S l → T (le (value (modelOf l) t j) (alpha (modelOf l) t j))
 
--- and without an end state so is the answer. With one, forward adds the end table and Viterbi does not, so that forward's may be below.
+-- and so is the answer, with an end state or without one
 abbrev pub LikelihoodIsAbove : Type 0
-LikelihoodIsAbove =
-    (l : Lent) → Accepted l → 0 < Lent.T l → l .tables .shape .ends ≡ false
-    → T (le (bestValue (modelOf l) (Lent.T l)) (forwardValue (modelOf l) (Lent.T l)))
+LikelihoodIsAbove = (l : Lent) → Accepted l → 0 < Lent.T l → T (le (bestValue (modelOf l) (Lent.T l)) (forwardValue (modelOf l) (Lent.T l)))

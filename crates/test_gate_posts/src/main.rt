@@ -9,6 +9,7 @@ mod walks;
 
 fn main() {
     paths::model_p();
+    paths::way_out();
     paths::model_z();
     walks::one_sample();
     paths::no_beginning();

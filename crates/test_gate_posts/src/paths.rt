@@ -1,4 +1,4 @@
-// The examples of `viterbi`: P1 to P6, Z1 and Z3.
+// The examples of `viterbi`: P1 to P6, E1 to E3, Z1 and Z3.
 use crate::print::answer;
 use crate::print::states;
 use answer::Answer;
@@ -16,21 +16,25 @@ fn path_of(a: Answer, path: &[u8; 3], n: usize) {
     text(b"\n");
 }
 
-// A model of S states and two symbols without an end state, decoded: the answer, and the path where the call is done.
+// A shape of two symbols.
+fn shape(states: usize, ends: bool) -> Shape {
+    Shape {
+        states: states,
+        symbols: 2,
+        ends: ends,
+    }
+}
+
+// A model, decoded: the answer, and the path where the call is done.
 fn decode(
     label: &[u8],
-    count: usize,
+    shape: Shape,
     transition: &[f64],
     emission: &[f64],
     initial: &[f64],
     end: &[f64],
     samples: &[u16],
 ) {
-    let shape = Shape {
-        states: count,
-        symbols: 2,
-        ends: false,
-    };
     let mut path = [0u8; 3];
     let mut values = [0.0; 9];
     let mut from = [0u8; 9];
@@ -57,7 +61,7 @@ fn decode_p(label: &[u8], transition: f64, emission: f64, samples: &[u16]) {
     let end = [0.0, 0.0];
     decode(
         label,
-        2,
+        shape(2, false),
         &transitions[..],
         &emissions[..],
         &initial[..],
@@ -81,6 +85,51 @@ pub fn model_p() {
     decode_p(b"P6 with -0.0", -1.0, -0.0, &three[..]);
 }
 
+// Model P with an end state, on the samples of P1.
+fn decode_ending(label: &[u8], end: &[f64]) {
+    let transition = [-1.0, -2.0, -2.0, -1.0];
+    let emission = [-1.0, -3.0, -3.0, -1.0];
+    let initial = [-1.0, -2.0];
+    let samples: [u16; 3] = [0, 1, 1];
+    decode(
+        label,
+        shape(2, true),
+        &transition[..],
+        &emission[..],
+        &initial[..],
+        end,
+        &samples[..],
+    );
+}
+
+// Model Z with -0.0 for each initial and emission entry, with an end state or without one.
+fn decode_minus_zeros(label: &[u8], ends: bool) {
+    let transition = [0.0; 4];
+    let emission = [-0.0; 4];
+    let initial = [-0.0; 2];
+    let end = [0.0; 2];
+    let samples: [u16; 1] = [0];
+    decode(
+        label,
+        shape(2, ends),
+        &transition[..],
+        &emission[..],
+        &initial[..],
+        &end[..],
+        &samples[..],
+    );
+}
+
+// E1 to E3: the way out.
+pub fn way_out() {
+    let dear = [0.0, -4.0];
+    let equal = [-1.0, -4.0];
+    decode_ending(b"E1", &dear[..]);
+    decode_ending(b"E2", &equal[..]);
+    decode_minus_zeros(b"E3", false);
+    decode_minus_zeros(b"E3 with an end state", true);
+}
+
 // Z1, all zero.
 pub fn model_z() {
     let transition = [0.0; 4];
@@ -90,7 +139,7 @@ pub fn model_z() {
     let samples: [u16; 2] = [0, 0];
     decode(
         b"Z1",
-        2,
+        shape(2, false),
         &transition[..],
         &emission[..],
         &initial[..],
@@ -108,7 +157,7 @@ pub fn no_beginning() {
     let samples: [u16; 2] = [0, 0];
     decode(
         b"Z3",
-        3,
+        shape(3, false),
         &transition[..],
         &emission[..],
         &initial[..],

@@ -13,30 +13,33 @@ use model::Shape;
 ghost use mathlib.Core.Path.{_≡_};
 ghost use Rattle.model.specs.Lent.{lent};
 ghost use Rattle.viterbi.specs.Call.{Decoded, outputs};
-ghost use Rattle.viterbi.specs.inner.Parts.{checkedFor, Decodable, FoundOf};
+ghost use Rattle.viterbi.specs.inner.Parts.{checkedFor, Decodable, Found};
 
-// The walk over one sample or more, once the checks are passed: the best path's value.
+// The walk over one sample or more, once the checks are passed: the best path's value. The rows take no end table; the last state and the
+// value do.
 fn decode(
-    states: usize,
-    symbols: usize,
+    shape: Shape,
     transition: &[f64],
     emission: &[f64],
     initial: &[f64],
+    end: &[f64],
     samples: &[u16],
     path: &mut [u8],
     values: &mut [f64],
     from: &mut [u8],
 ) -> f64
-    requires { ⌜ Decodable states symbols (now transition) (now emission) (now initial) (now samples)
-        (outputs (now path) (now values) (now from)) ⌝ }
-    ensures { λ r. ⌜ FoundOf states symbols (now (transition .entry)) (now (emission .entry)) (now (initial .entry)) (now (samples .entry))
+    requires { ⌜ Decodable
+        (lent shape (now transition) (now emission) (now initial) (now end) (now samples)) (outputs (now path) (now values) (now from)) ⌝ }
+    ensures { λ r. ⌜ Found
+        (lent shape (now (transition .entry)) (now (emission .entry)) (now (initial .entry)) (now (end .entry)) (now (samples .entry)))
         (outputs (now (path .entry)) (now (values .entry)) (now (from .entry)))
         r
         (outputs (now (path .exit)) (now (values .exit)) (now (from .exit))) ⌝ }
 {
+    let states = shape.states;
     rows(
         states,
-        symbols,
+        shape.symbols,
         transition,
         emission,
         initial,
@@ -48,9 +51,9 @@ fn decode(
     let start = (n - 1) * states;
     let stop = start + states;
     let row = &values[start..stop];
-    let last = last_state(row);
+    let last = last_state(shape.ends, end, row);
     trace(states, &from[..], n, last, 0, path);
-    close(row, last)
+    close(shape.ends, end, row, last)
 }
 
 // The checks 1 to 8, in their order; of the outputs only the lengths are needed.
@@ -135,11 +138,11 @@ pub fn viterbi(
         return done(minus_infinity());
     }
     done(decode(
-        shape.states,
-        shape.symbols,
+        shape,
         transition,
         emission,
         initial,
+        end,
         samples,
         path,
         values,

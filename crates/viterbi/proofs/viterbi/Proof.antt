@@ -5,7 +5,6 @@ use native.Mathlib.Omega.{arith}
 use denote.Ref.{now}
 use borrow.Author.Needs.{needs}
 use borrow.Author.Tests.{not-true, not-false}
-use Rattle.floats.specs.Float.{at}
 use Rattle.answer.specs.Answer.{isDone, done}
 use Rattle.model.specs.Lent.{Lent, lent}
 use Rattle.checks.specs.LetThrough.{LetThrough}
@@ -79,6 +78,7 @@ decode-requires c κs =
         fromRoom = h .roomy .1 .1 .0;
       };
       symbolic = record { emissionLength = m .emissionLength; known = h .accepted .samples .known };
+      endLength = m .endLength;
       someSample = omega (arith, e .if2 .left);
       pathRoom = h .roomy .0;
     }
@@ -99,9 +99,7 @@ returns-3 : tie.Need-returns-3
 returns-3 c =
     let d = walk (c .before) .before .before in
     let p = d .before .before .before .before .before in
-    let m = given (p .before) .tables in
-    let found = d .decode .ensures (m .shape .ends) (at (m .end)) in
-    is-walked (given (p .before)) (lentOut (p .before)) _ (passed p) _ _ found (c .done2 .ensures)
+    is-walked (given (p .before)) (lentOut (p .before)) _ (passed p) _ _ (d .decode .ensures) (c .done2 .ensures)
 
 pub viterbi-spec : {M : Type 1} → statement M
 viterbi-spec =

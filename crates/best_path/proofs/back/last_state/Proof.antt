@@ -1,4 +1,4 @@
--- `best_path::back::last_state` meets its contract. The loop's invariant: best is the greatest below k.
+-- `best_path::back::last_state` meets its contract. The loop's invariant: best has the greatest score below k.
 use Prim.Native.Nat.{ℕ, _-_}
 use mathlib.Core.Bool.{Bool}
 use mathlib.Core.List.{List}
@@ -8,25 +8,26 @@ use lib.ListN.{length}
 use lib.Ieee.{Float, le}
 use Rattle.floats.specs.Float.{at}
 use Rattle.best_path.specs.Best.{greatest}
+use Rattle.best_path.specs.Walk.{ended}
 use Rattle.best_path.proofs.Turn.{Leads, leads-none, leads-new, leads-old, leads-all}
 use borrow.Author.Needs.{needs}
 use Rattle.best_path.proofs.back.last_state.Statement.{statement}
 use Rattle.best_path.proofs.back.last_state.Tie as tie
 
-abbrev atLeast : List Float → ℕ → ℕ → Bool
-atLeast row b k = le (at row b) (at row k)
+abbrev atLeast : Bool → List Float → List Float → ℕ → ℕ → Bool
+atLeast ends end row b k = le (ended ends (at end b) (at row b)) (ended ends (at end k) (at row k))
 
 abbrev Inv-loop : tie.InvT-loop
-Inv-loop row best₀ k₀ best k = Leads (atLeast row) (length row) k best
+Inv-loop ends end row best₀ k₀ best k = Leads (atLeast ends end row) (length row) k best
 
 abbrev μ-loop : tie.MeasureT-loop
-μ-loop row best₀ k₀ best k = length row - k
+μ-loop ends end row best₀ k₀ best k = length row - k
 
 same-test : {x y v w : Float} → x ≡ v → y ≡ w → le x y ≡ le v w
 same-test p q = cc
 
 loop-holds : tie.Need-loop-holds Inv-loop μ-loop
-loop-holds c = leads-none _ _ (c .before .pre)
+loop-holds c = leads-none _ _ (c .before .before .pre .0)
 
 close-requires : tie.Need-close-requires Inv-loop μ-loop
 close-requires c κs = search needs
