@@ -176,7 +176,7 @@ struct call {
 };
 
 static const struct call CALLS[] = {
-    { viterbi, viterbi_of, -15, 3, { { &lent.path.length, T }, { &lent.outputs[0].length, S * T }, { &lent.from.length, S * T } } },
+    { viterbi, viterbi_of, -31, 3, { { &lent.path.length, T }, { &lent.outputs[0].length, S * T }, { &lent.from.length, S * T } } },
     { forward, forward_of, -31, 1, { { &lent.outputs[0].length, S * T } } },
     { backward, backward_of, -31, 1, { { &lent.outputs[0].length, S * T } } },
     { baum_welch, baum_welch_of, -31, 6,
@@ -287,12 +287,61 @@ static void walks(void) {
     static const double best[] = { -5, MINUS_INFINITY, MINUS_INFINITY, -15 };
     static const double beta[] = { MINUS_INFINITY, -16, -26, MINUS_INFINITY };
     lend();
-    EXPECT(is_done(viterbi(), -15));
+    EXPECT(is_done(viterbi(), -31));
     EXPECT(holds_states(&lent.path, T, path) && holds(&lent.outputs[0], S * T, best) && holds_states(&lent.from, S * T, from));
     lend();
     EXPECT(is_done(forward(), -31) && holds(&lent.outputs[0], S * T, best));
     lend();
     EXPECT(is_done(backward(), -31) && holds(&lent.outputs[0], S * T, beta));
+}
+
+/* How a best path ends, over one sample that both states emit alike. With the end flag, whatever its byte, the last state's end entry is
+ * added last: it chooses the last state, the highest-numbered of the greatest sums, and may leave no path at all. Without it nothing is
+ * added, so that -0.0 stays -0.0. */
+static const struct ending {
+    uint8_t ends;
+    double initial[S], emission, end[S];
+    uint8_t last;
+    double value;
+} ENDINGS[] = {
+    { 0, { -1, -2 }, 0, { 0, 0 }, 0, -1 },
+    { 1, { -1, -2 }, 0, { 0, 0 }, 0, -1 },
+    { 1, { -1, -2 }, 0, { -3, -1 }, 1, -3 },
+    { 2, { -1, -2 }, 0, { -3, -1 }, 1, -3 },
+    { 1, { -1, -2 }, 0, { -1, 0 }, 1, -2 },
+    { 1, { -1, -2 }, 0, { MINUS_INFINITY, MINUS_INFINITY }, 1, MINUS_INFINITY },
+    { 0, { -0.0, -1 }, -0.0, { 0, 0 }, 0, -0.0 },
+    { 1, { -0.0, -1 }, -0.0, { 0, 0 }, 0, 0 },
+    { 1, { -0.0, -1 }, -0.0, { -0.0, 0 }, 0, -0.0 },
+};
+
+static void lend_ending(const struct ending *e) {
+    const double zeros[S * S] = { 0 }, emission[] = { e->emission, e->emission };
+    lend();
+    shape = (wasnugram_shape){ S, 1, e->ends };
+    copy(lent.tables[0].entries, zeros, S * S);
+    copy(lent.tables[1].entries, emission, S);
+    copy(lent.tables[2].entries, e->initial, S);
+    copy(lent.tables[3].entries, e->end, S);
+    lent.tables[1].length = S, lent.samples_length = 1;
+}
+
+/* Whether the answer and the path are as the ending says, and `values` and `from` hold nothing of the end table. */
+static int ends_so(const struct ending *e, wasnugram_answer a) {
+    static const uint8_t from[] = { 0, 1 };
+    const double values[] = { e->initial[0] + e->emission, e->initial[1] + e->emission };
+    int is_possible = e->value > MINUS_INFINITY;
+    return is_done(a, e->value) && wasnugram_is_possible(a) == is_possible && holds_states(&lent.path, 1, &e->last) &&
+           holds(&lent.outputs[0], S, values) && holds_states(&lent.from, S, from);
+}
+
+static void endings(void) {
+    for (size_t i = 0; i < sizeof ENDINGS / sizeof ENDINGS[0]; i++) {
+        lend_ending(&ENDINGS[i]);
+        EXPECT(ends_so(&ENDINGS[i], viterbi()));
+        lend_ending(&ENDINGS[i]);
+        EXPECT(ends_so(&ENDINGS[i], viterbi_of(1)));
+    }
 }
 
 /* What a training pass writes of the chain: the way through is certain. */
@@ -402,6 +451,7 @@ int calls_wrong(void) {
     wrong = 0;
     calls_on_a_model();
     walks();
+    endings();
     a_pass();
     zero_mass();
     nothing_lent();

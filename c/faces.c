@@ -1,5 +1,6 @@
 /* Wrong faces, and whether calls.c sees each: any two arguments of one type exchanged in an export, any two fields of a shape or an
- * answer, any two exports of one signature. The linker puts these functions between calls.c and the archive (--wrap). */
+ * answer, any two exports of one signature; and a best path that ends in a wrong way. The linker puts these functions between calls.c and
+ * the archive (--wrap). */
 #include <stdio.h>
 #include "wasnugram.h"
 #include "calls.h"
@@ -42,6 +43,18 @@ static struct {
 static size_t place(enum group group, size_t i) {
     if (exchanged.group != group) return i;
     return i == exchanged.first ? exchanged.second : i == exchanged.second ? exchanged.first : i;
+}
+
+/* How the best path ends in the face that is tried. */
+static enum way_out { RIGHT, LEFT_OUT, ALWAYS_ADDED, LOWEST_BIT, WAYS_OUT } way_out;
+static const char *const WAY_OUT[WAYS_OUT] = {
+    [LEFT_OUT] = "the end table left out",
+    [ALWAYS_ADDED] = "+0.0 added where there is no end state",
+    [LOWEST_BIT] = "the lowest bit taken for the end flag",
+};
+
+static uint8_t flag_of(uint8_t ends) {
+    return way_out == LEFT_OUT ? 0 : way_out == ALWAYS_ADDED ? 1 : way_out == LOWEST_BIT ? ends & 1 : ends;
 }
 
 static wasnugram_shape shape_of(enum group group, wasnugram_shape shape) {
@@ -89,11 +102,24 @@ static wasnugram_answer (*const OF_ONE_CALL[])(double) = { __real_wasnugram_exp,
 static wasnugram_answer (*const OF_TWO_CALL[])(double, double) = { __real_wasnugram_ln_add_exp, __real_wasnugram_ln_sub_exp,
                                                                   __real_wasnugram_cap_numerical_overshoot };
 
+static wasnugram_answer viterbi(
+    wasnugram_shape shape, const struct numbers *n, const struct bytes *b, uint16_t *samples, size_t samples_length) {
+    return __real_wasnugram_viterbi(shape_of(VITERBI_SHAPE, shape), TABLES(n, VITERBI_NUMBERS), samples, samples_length,
+                                    LENT(b, VITERBI_BYTES, 0), LENT(n, VITERBI_NUMBERS, 4), LENT(b, VITERBI_BYTES, 1));
+}
+
+/* A wrong way out is taken once the checks are passed, so that no refusal tells it. */
 wasnugram_answer __wrap_wasnugram_viterbi(PATH) {
+    static double zeros[WASNUGRAM_MOST_STATES];
     struct numbers n[] = { MODEL_TABLES, { values, values_length } };
     struct bytes b[] = { { path, path_length }, { from, from_length } };
-    return answer_of(__real_wasnugram_viterbi(shape_of(VITERBI_SHAPE, shape), TABLES(n, VITERBI_NUMBERS), samples, samples_length,
-                                              LENT(b, VITERBI_BYTES, 0), LENT(n, VITERBI_NUMBERS, 4), LENT(b, VITERBI_BYTES, 1)));
+    wasnugram_answer a = viterbi(shape, n, b, samples, samples_length);
+    if (a.refusal == WASNUGRAM_DONE && way_out != RIGHT) {
+        shape.ends = flag_of(shape.ends);
+        if (!shape.ends) n[WASNUGRAM_END].entries = zeros;
+        a = viterbi(shape, n, b, samples, samples_length);
+    }
+    return answer_of(a);
 }
 
 wasnugram_answer __wrap_wasnugram_forward(WALK) {
@@ -158,13 +184,18 @@ wasnugram_answer __wrap_wasnugram_cap_numerical_overshoot(double value, double e
 
 static size_t tried, unseen;
 
+/* Tries the wrong face that is set: whether it is taken for the right one. */
+static int is_unseen(void) {
+    int so = calls_wrong() == 0;
+    tried++;
+    unseen += so;
+    return so;
+}
+
 /* Tries the face with two places exchanged. */
 static void try_face(enum group group, size_t first, size_t second) {
     exchanged.group = group, exchanged.first = first, exchanged.second = second;
-    tried++;
-    if (calls_wrong()) return;
-    unseen++;
-    printf("a wrong face is not seen: %s, %zu and %zu exchanged\n", GROUP[group].name, first, second);
+    if (is_unseen()) printf("a wrong face is not seen: %s, %zu and %zu exchanged\n", GROUP[group].name, first, second);
 }
 
 /* Tries every pair of places. */
@@ -175,11 +206,19 @@ static void try_group(enum group group) {
     }
 }
 
+static void try_ways_out(void) {
+    for (way_out = RIGHT + 1; way_out < WAYS_OUT; way_out++) {
+        if (is_unseen()) printf("a wrong face is not seen: %s\n", WAY_OUT[way_out]);
+    }
+    way_out = RIGHT;
+}
+
 int main(void) {
     if (calls_wrong()) {
         printf("the right face is taken for a wrong one, in line %d of c/calls.c\n", calls_first_wrong_line);
         return 1;
     }
+    try_ways_out();
     for (enum group group = 0; group < GROUPS; group++) try_group(group);
     printf("%zu wrong faces tried, %zu not seen\n", tried, unseen);
     return unseen != 0;

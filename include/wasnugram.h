@@ -35,8 +35,8 @@
  * nothing that was lent has changed (WASNUGRAM_ZERO_MASS clears scratch). Checks run in the order of their numbers, tables and outputs
  * by number, places upward; the first fault answers.
  *
- * DONE WITH MINUS INFINITY MEANS THAT NO PATH EXPLAINS THE SAMPLES. The path that was written means nothing then: charge no fare from it.
- * Ask wasnugram_is_possible before you use a path.
+ * DONE WITH MINUS INFINITY MEANS THAT NO PATH EXPLAINS THE SAMPLES, the way out included where there is an end state. The path that was
+ * written means nothing then: charge no fare from it. Ask wasnugram_is_possible before you use a path.
  *
  * Example 1. At power-up the model is checked; then passages are decoded. Each buffer has room for 240 samples:
  *
@@ -216,11 +216,13 @@ static inline int wasnugram_is_possible(wasnugram_answer answer) {
  *   output 6  values  T*S    entry t*S + j: the value of state j at sample t
  *   output 7  from    T*S    entry t*S + j: the state before it on the best way there; state j itself in the first row
  *
- * The value is the best path's score: the sum from the left of initial, emission, transition, emission and so on. The end table is
- * checked and not used: Viterbi does not count the way out; forward, backward and a training pass do.
+ * The value is the best path's score: the sum from the left of initial, emission, transition, emission and so on. With an end state the
+ * last state's end entry is added last: the way out counts, as in forward, backward and a training pass. Without one nothing is added, so
+ * that -0.0 stays -0.0. `values` and `from` hold nothing of the end table. The Rust crate bio 4.2.2 differs: its Viterbi leaves the end
+ * table out.
  *
  * Ties. The highest-numbered of the best wins, among predecessors as for the last state. A predecessor at minus infinity ranks below
- * every other one; the rest rank by value + transition.
+ * every other one; the rest rank by value + transition. Last states rank by value, with an end state by value + end.
  *
  * No samples: done, nothing written, minus infinity. So a call without samples and outputs checks a model (wasnugram_check_of). */
 wasnugram_answer wasnugram_viterbi(

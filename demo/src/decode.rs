@@ -75,7 +75,7 @@ mod tests {
     #[test]
     fn nothing_follows_from_samples_that_no_row_explains() {
         let mut tables = Tables::of_the_gate();
-        tables.0[INITIAL].fill(f64::NEG_INFINITY);
+        tables.entries[INITIAL].fill(f64::NEG_INFINITY);
         let decoded = decode(&tables, &[0, 127, 0], &mut Lent::filled(4)).unwrap();
         assert_eq!((decoded.row.len(), decoded.value), (0, f64::NEG_INFINITY));
         assert_eq!(fares(&decoded.row), []);

@@ -34,13 +34,13 @@ impl Flip {
 
     /// Every bit of every entry.
     pub fn all(tables: &Tables) -> impl Iterator<Item = Flip> {
-        let lengths = tables.0.each_ref().map(Vec::len);
+        let lengths = tables.entries.each_ref().map(Vec::len);
         let entries = (0..NAMES.len()).flat_map(move |table| (0..lengths[table]).map(move |place| (table, place)));
         entries.flat_map(|(table, place)| (0..u64::BITS).map(move |bit| Flip { table, place, bit }))
     }
 
     pub fn apply(self, tables: &mut Tables) {
-        let entry = &mut tables.0[self.table][self.place];
+        let entry = &mut tables.entries[self.table][self.place];
         *entry = f64::from_bits(entry.to_bits() ^ 1 << self.bit);
     }
 
@@ -51,8 +51,8 @@ impl Flip {
         let untouched = Lent::filled(0xa5);
         let mut lent = untouched.clone();
         Outcome {
-            before: tables.0[self.table][self.place],
-            after: flipped.0[self.table][self.place],
+            before: tables.entries[self.table][self.place],
+            after: flipped.entries[self.table][self.place],
             refused: decode(&flipped, samples, &mut lent).err(),
             untouched: lent == untouched,
         }
@@ -109,7 +109,7 @@ fn count(flip: Flip, tables: &mut Tables, tally: &mut Tally) {
 
 /// Whether the rules call the flipped entry good: at most 0, and +0.0 in the end table of a model without an end state.
 fn good(flip: Flip, tables: &Tables) -> bool {
-    let entry = tables.0[flip.table][flip.place];
+    let entry = tables.entries[flip.table][flip.place];
     match flip.table {
         END => entry.to_bits() == 0,
         _ => entry <= 0.0,

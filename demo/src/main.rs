@@ -1,19 +1,22 @@
-//! `demo RECORDING PICTURE`: decodes a recording, draws it into a file, and prints what it says.
+//! `demo RECORDING PICTURE [EXIT]`: decodes a recording, draws it into a file, and prints what it says; then the recording
+//! of an exit lane, where one is named.
 
+use demo::exit_lane::ExitLane;
 use demo::morning::Morning;
 use demo::{picture, report};
 use std::io::{self, Write};
 use std::process::ExitCode;
 use std::{env, fs};
 
-const USAGE: &str = "usage: demo RECORDING PICTURE\n";
+const USAGE: &str = "usage: demo RECORDING PICTURE [EXIT]\n";
 
 fn main() -> ExitCode {
     let arguments: Vec<String> = env::args().skip(1).collect();
     let words: Vec<&str> = arguments.iter().map(String::as_str).collect();
     let ended = match words[..] {
         ["-h" | "--help"] => print(USAGE),
-        [recording, picture] => run(recording, picture),
+        [recording, picture] => run(recording, picture, None),
+        [recording, picture, exit] => run(recording, picture, Some(exit)),
         _ => Err(USAGE.trim_end().to_string()),
     };
     match ended {
@@ -25,11 +28,18 @@ fn main() -> ExitCode {
     }
 }
 
-fn run(recording: &str, picture: &str) -> Result<(), String> {
-    let text = fs::read_to_string(recording).map_err(|why| format!("{recording}: {why}"))?;
-    let morning = Morning::of(&text).map_err(|why| format!("{recording}: {why}"))?;
+fn run(recording: &str, picture: &str, exit: Option<&str>) -> Result<(), String> {
+    let morning = decoded(recording, Morning::of)?;
+    let exit_lane = exit.map(|exit| decoded(exit, ExitLane::of)).transpose()?;
     fs::write(picture, picture::picture(&morning)).map_err(|why| format!("{picture}: {why}"))?;
-    print(&format!("{}\npicture: {picture}\n", report::report(&morning)))
+    let exits = exit_lane.as_ref().map_or(String::new(), report::exits);
+    print(&format!("{}{exits}\npicture: {picture}\n", report::report(&morning)))
+}
+
+/// What is made of a recording; else which file is wrong, and why.
+fn decoded<T>(recording: &str, of: fn(&str) -> Result<T, String>) -> Result<T, String> {
+    let text = fs::read_to_string(recording).map_err(|why| format!("{recording}: {why}"))?;
+    of(&text).map_err(|why| format!("{recording}: {why}"))
 }
 
 fn print(text: &str) -> Result<(), String> {

@@ -1,6 +1,7 @@
 //! What the demo prints.
 
 use crate::decode::{fares, Decoded};
+use crate::exit_lane::{Exit, ExitLane};
 use crate::flip::{Flip, Outcome, Tally};
 use crate::morning::Morning;
 use crate::recording::Passage;
@@ -15,6 +16,16 @@ pub fn report(morning: &Morning) -> String {
     lines.extend(takings(&morning.fares()));
     lines.extend(flip(morning.flip, &morning.outcome));
     lines.extend(tally(&morning.tally));
+    lines.join("\n") + "\n"
+}
+
+/// The exit lane's part, which follows the morning's.
+pub fn exits(exit_lane: &ExitLane) -> String {
+    let mut lines = Vec::new();
+    if !exit_lane.caption.is_empty() {
+        lines.extend([String::new(), exit_lane.caption.clone()]);
+    }
+    lines.extend(exit_lane.passages.iter().flat_map(exit));
     lines.join("\n") + "\n"
 }
 
@@ -36,10 +47,18 @@ fn passage(number: usize, passage: &Passage, decoded: &Decoded) -> [String; 5] {
             "passage {number}, {}, {length} samples: {}",
             passage.clock, passage.note
         ),
-        format!("  states  {}", words::row(&decoded.row)),
+        states(decoded),
         format!("  fare    {}", words::fares(&fares(&decoded.row))),
-        format!("  value   {:.3}", decoded.value),
+        value(decoded),
     ]
+}
+
+fn states(decoded: &Decoded) -> String {
+    format!("  states  {}", words::row(&decoded.row))
+}
+
+fn value(decoded: &Decoded) -> String {
+    format!("  value   {:.3}", decoded.value)
 }
 
 fn takings(paid: &[Fare]) -> Vec<String> {
@@ -80,5 +99,24 @@ fn tally(tally: &Tally) -> [String; 5] {
             "leave an entry that is at most 0: accepted, a logarithm like any other",
         ),
         line(tally.wrong, "are answered otherwise"),
+    ]
+}
+
+fn exit(exit: &Exit) -> Vec<String> {
+    let Passage { clock, samples, note } = &exit.passage;
+    let length = samples.len();
+    let mut lines = vec![String::new(), format!("exit lane, {clock}, {length} samples: {note}")];
+    let added = "with the end flag: the last state's end entry is added last";
+    lines.extend(ending(added, &exit.with_end));
+    lines.extend(ending("without the end flag: nothing is added", &exit.without_end));
+    lines
+}
+
+fn ending(how: &str, decoded: &Decoded) -> [String; 4] {
+    [
+        how.to_string(),
+        states(decoded),
+        format!("  last    {}", words::last(&decoded.row)),
+        value(decoded),
     ]
 }

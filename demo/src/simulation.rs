@@ -1,4 +1,5 @@
-//! The simulated morning: who passes the gate and when, seen by eight barriers of which each errs now and then.
+//! The simulated morning: who passes the gate and when, seen by eight barriers of which each errs now and then; and a
+//! passage of the exit lane.
 //!
 //! No real data: the side views of `figures` move past the barriers at a walking pace, and a seeded generator flips
 //! bits. Everything is whole numbers, so the recording is the same on every machine.
@@ -124,6 +125,16 @@ fn busy_scenes() -> Vec<Scene> {
 pub fn simulated() -> Vec<Passage> {
     let mut random = Random::from_seed(SEED);
     scenes().iter().map(|scene| recorded(scene, &mut random)).collect()
+}
+
+/// The passage that exit.txt holds: the lane stops recording one sample behind the last step, and in that sample the
+/// dirty barrier errs.
+pub fn simulated_exit_lane() -> Passage {
+    let scene = Scene {
+        dirty: Some(2),
+        ..scene("09:12:25", "an adult, barrier 2 dirty", 52, vec![walk(ADULT, 23, 30)])
+    };
+    recorded(&scene, &mut Random::from_seed(SEED))
 }
 
 fn recorded(scene: &Scene, random: &mut Random) -> Passage {

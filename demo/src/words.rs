@@ -15,6 +15,11 @@ pub fn row(row: &[u8]) -> String {
     words.collect::<Vec<String>>().join(" ")
 }
 
+/// The last state of a row.
+pub fn last(row: &[u8]) -> &'static str {
+    row.last().map_or("none", |state| ALL[usize::from(*state)].name)
+}
+
 pub fn fares(fares: &[Fare]) -> String {
     if fares.is_empty() {
         return "none".to_string();
@@ -121,6 +126,7 @@ mod tests {
     fn an_empty_row_says_what_it_is() {
         assert_eq!(row(&[0, 0, 4]), "empty×2 adult×1");
         assert_eq!(row(&[]), "none explains the samples");
+        assert_eq!((last(&[0, 0, 4]), last(&[])), ("adult", "none"));
     }
 
     #[test]

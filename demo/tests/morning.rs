@@ -1,11 +1,12 @@
 //! The recording, the printed report and the picture are what is stored, byte for byte.
 
 use demo::consequences::Consequences;
+use demo::exit_lane::ExitLane;
 use demo::flip::Tally;
 use demo::morning::Morning;
 use demo::picture::picture;
 use demo::recording::{read, LONGEST};
-use demo::report::report;
+use demo::report::{exits, report};
 use demo::simulation::simulated;
 use wasnugram::{Refusal, Table};
 
@@ -24,7 +25,8 @@ fn the_recording_is_the_simulated_one() {
 
 #[test]
 fn the_report_is_the_stored_one() {
-    assert_eq!(report(&morning()), include_str!("../stdout"));
+    let exit_lane = ExitLane::of(include_str!("../exit.txt")).unwrap();
+    assert_eq!(report(&morning()) + &exits(&exit_lane), include_str!("../stdout"));
 }
 
 /// The indented lines of the README's section on the demo are lines of the report.

@@ -3,7 +3,7 @@
 //!
 //! Plain Rust is the independent reference, with the same rules, kernels and checks. Its exp is shaped for speed but where
 //! a heading says that it is the loop as RULES 4.1 reads. The library and plain Rust count their checks; bio makes none,
-//! and allocates what it returns.
+//! and allocates what it returns. bio's Viterbi leaves an end state out, so that the line with one has no ratio to bio.
 
 mod contest;
 mod leaves;
@@ -19,6 +19,8 @@ fn main() {
     for call in CALLS {
         walks::contest(REFERENCE, call, 12, 240);
     }
+    print_heading("with an end state");
+    walks::viterbi_with_end_state(12, 240);
     print_heading("plain exp as written");
     for call in [Call::Forward, Call::Backward] {
         walks::contest(walks::AS_WRITTEN, call, 12, 240);

@@ -24,7 +24,7 @@ fn as_written(call: Call, case: &Case, outputs: &mut [Output]) -> Answer {
     }
 }
 
-/// Times one call against plain Rust, and prints a line.
+/// Times one call against plain Rust and bio, and prints a line.
 pub fn contest(plain: Engine, call: Call, states: usize, samples: usize) {
     let case = case(states, samples);
     let wide = case.wide_samples();
@@ -35,6 +35,14 @@ pub fn contest(plain: Engine, call: Call, states: usize, samples: usize) {
         library: engine::library().map(|library| on_lent_memory(library, call, &case)),
     };
     rivals.print(&format!("{} S {states} T {samples}", call.name()), 1);
+}
+
+/// Times Viterbi with an end state, whose table is the initial one, against plain Rust, and prints a line. bio leaves the
+/// end table out, so that it does not do the same work.
+pub fn viterbi_with_end_state(states: usize, samples: usize) {
+    let mut case = case(states, samples);
+    (case.shape.ends, case.end) = (true, case.initial.clone());
+    without_bio(Call::Viterbi, &case).print(&format!("viterbi S {states} T {samples}"), 1);
 }
 
 /// Times forward at each number of states, and prints what a term of a sum costs, of which a cell has one for each state:
@@ -64,13 +72,16 @@ pub fn cost_of_a_term(states: &[usize], samples: usize) {
 }
 
 fn forward_alone(states: usize, samples: usize) -> Times {
-    let case = case(states, samples);
-    let rivals = Rivals {
-        plain: on_lent_memory(REFERENCE, Call::Forward, &case),
+    without_bio(Call::Forward, &case(states, samples)).times()
+}
+
+/// Plain Rust, and the library where it is at hand.
+fn without_bio(call: Call, case: &Case) -> Rivals<'_> {
+    Rivals {
+        plain: on_lent_memory(REFERENCE, call, case),
         bio: None,
-        library: engine::library().map(|library| on_lent_memory(library, Call::Forward, &case)),
-    };
-    rivals.times()
+        library: engine::library().map(|library| on_lent_memory(library, call, case)),
+    }
 }
 
 /// A random model without an end state whose rows are distributions.
@@ -80,10 +91,7 @@ fn case(states: usize, samples: usize) -> Case {
         symbols: 64,
         samples,
     };
-    let mut case = of_kinds(sizes, [Kind::Normalised; 4], &mut Random::new(1));
-    case.shape.ends = false;
-    case.end.fill(0.0);
-    case
+    of_kinds(sizes, [Kind::Normalised; 4], &mut Random::new(1)).without_end_state()
 }
 
 fn on_lent_memory(engine: Engine, call: Call, case: &Case) -> Rival<'_> {

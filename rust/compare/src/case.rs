@@ -36,6 +36,14 @@ impl Case {
         ]
     }
 
+    /// The same without an end state.
+    pub fn without_end_state(&self) -> Case {
+        let mut without = self.clone();
+        without.shape.ends = false;
+        without.end.fill(0.0);
+        without
+    }
+
     /// The samples as bio takes them.
     pub fn wide_samples(&self) -> Vec<usize> {
         self.samples.iter().map(|sample| usize::from(*sample)).collect()

@@ -93,6 +93,10 @@ impl Comparison {
         if let Some(modes) = self.modes {
             let row = "viterbi: reference, bio as published";
             self.add(row, case, &|case| likeness::viterbi(&modes.published, case));
+            if case.shape.ends {
+                let row = "viterbi: reference, bio with the end state as a state";
+                self.add(row, case, &|case| likeness::viterbi_to_the_end(&modes.published, case));
+            }
         }
     }
 

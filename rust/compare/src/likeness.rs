@@ -1,5 +1,7 @@
 //! One case held against bio, or the proved library against the reference.
 
+mod end_state;
+
 use crate::case::Case;
 use crate::damage::Named;
 use crate::engine::{Engine, REFERENCE};
@@ -17,11 +19,15 @@ struct Ours {
 }
 
 fn ours(call: Call, case: &Case) -> Ours {
+    ours_by(&REFERENCE, call, case)
+}
+
+fn ours_by(engine: &Engine, call: Call, case: &Case) -> Ours {
     let mut outputs = lend(call, case, &mut Random::new(0));
     for (output, needed) in outputs.iter_mut().zip(call.needed(case)) {
         output.truncate(needed);
     }
-    let answer = (REFERENCE.call)(call, case, &mut outputs);
+    let answer = (engine.call)(call, case, &mut outputs);
     Ours { answer, outputs }
 }
 
@@ -45,24 +51,65 @@ fn bio_model(bio: &Bio, case: &Case) -> Box<dyn Walks> {
     (bio.model)(&case.model()).expect("the dimensions of a case are consistent")
 }
 
-/// The best path: path, value and both tables, bit for bit. Without an end state both of bio's discrete models give it.
+/// The best path: both tables, path and value, bit for bit. Without an end state both of bio's discrete models give path
+/// and value; with one bio leaves it out, and they follow from bio's tables.
 pub fn viterbi(bio: &Bio, case: &Case) -> Verdict {
-    let ours = ours(Call::Viterbi, case);
+    viterbi_by(&REFERENCE, bio, case)
+}
+
+fn viterbi_by(engine: &Engine, bio: &Bio, case: &Case) -> Verdict {
+    let ours = ours_by(engine, Call::Viterbi, case);
     let walks = bio_model(bio, case);
     let samples = case.wide_samples();
-    let (path, value) = walks.viterbi(&samples);
     let (values, from) = walks.viterbi_tables(&samples);
+    let theirs = walks.viterbi(&samples);
     let mut verdict = Verdict::default();
     verdict.whole("refusal", u64::from(ours.answer.refusal), u64::from(DONE));
-    verdict.number("value", ours.answer.value, value);
-    verdict.bytes("path", ours.bytes(0), &path);
     verdict.table("values", ours.numbers(1), &values);
     verdict.bytes("from", ours.bytes(2), &from);
-    if !case.shape.ends {
+    if case.shape.ends {
+        let closed = end_state::from_tables(case, &values, &from);
+        decoded(&mut verdict, "bio's tables and the end table", &ours, &closed);
+        note_the_way_out(&mut verdict, &ours, &theirs);
+    } else {
+        decoded(&mut verdict, "bio's model", &ours, &theirs);
         let walks = (bio.model_without_end)(&case.model()).expect("the dimensions of a case are consistent");
-        let (path, value) = walks.viterbi(&samples);
-        verdict.number("value of the model without an end state", ours.answer.value, value);
-        verdict.bytes("path of the model without an end state", ours.bytes(0), &path);
+        let theirs = walks.viterbi(&samples);
+        decoded(&mut verdict, "bio's model without an end state", &ours, &theirs);
+    }
+    verdict
+}
+
+/// Compares path and value with those of something, bit for bit.
+fn decoded(verdict: &mut Verdict, of: &str, ours: &Ours, (path, value): &(Vec<u8>, f64)) {
+    verdict.number(&format!("value of {of}"), ours.answer.value, *value);
+    verdict.bytes(&format!("path of {of}"), ours.bytes(0), path);
+}
+
+/// Notes what the end table changes: the value, and the last state.
+fn note_the_way_out(verdict: &mut Verdict, ours: &Ours, (path, value): &(Vec<u8>, f64)) {
+    if ours.answer.value.to_bits() != value.to_bits() {
+        verdict.note(Intended::EndEntry);
+    }
+    if ours.bytes(0).last() != path.last() {
+        verdict.note(Intended::WayOut);
+    }
+}
+
+/// The best path with an end state, by bio's own walk to the end state as a state like the others: the value, and the path
+/// where there is a way out, bit for bit.
+pub fn viterbi_to_the_end(bio: &Bio, case: &Case) -> Verdict {
+    viterbi_to_the_end_by(&REFERENCE, bio, case)
+}
+
+fn viterbi_to_the_end_by(engine: &Engine, bio: &Bio, case: &Case) -> Verdict {
+    let ours = ours_by(engine, Call::Viterbi, case);
+    let longer = end_state::as_a_state(case);
+    let (path, value) = bio_model(bio, &longer).viterbi(&longer.wide_samples());
+    let mut verdict = Verdict::default();
+    verdict.number("value", ours.answer.value, value);
+    if value > f64::NEG_INFINITY {
+        verdict.bytes("path", ours.bytes(0), &path[..case.samples.len()]);
     }
     verdict
 }

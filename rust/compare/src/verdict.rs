@@ -6,6 +6,8 @@ use reference::Answer;
 /// The differences from bio that are meant to be, as docs/DIFFERENCES.md lists them.
 #[derive(Clone, Copy, Debug, PartialEq, Eq, PartialOrd, Ord)]
 pub enum Intended {
+    EndEntry,
+    WayOut,
     NoSamples,
     AbsentSymbols,
     Cap,
@@ -21,6 +23,8 @@ pub enum Intended {
 impl Intended {
     pub fn text(self) -> &'static str {
         match self {
+            Intended::EndEntry => "viterbi with an end state: the end entry is in the value, which bio leaves out",
+            Intended::WayOut => "viterbi with an end state: another last state than bio's, which leaves it out",
             Intended::NoSamples => "no samples in forward or a pass: 4, where bio panics",
             Intended::AbsentSymbols => "absent symbols: a column at minus infinity, which bio drops",
             Intended::Cap => "a result of a pass above 0: stored as 0.0, which bio leaves",

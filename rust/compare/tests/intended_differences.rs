@@ -28,16 +28,22 @@ fn bio(modes: &Modes, case: &Case) -> Box<dyn Walks> {
     (modes.published.model)(&case.model()).expect("bio takes this model")
 }
 
-fn viterbi(case: &Case) -> Answer {
+/// The best path and the answer.
+fn decode(case: &Case) -> (Vec<u8>, Answer) {
     let cells = case.samples.len() * case.shape.states;
     let mut path = vec![0; case.samples.len()];
-    reference::viterbi(
+    let answer = reference::viterbi(
         &case.model(),
         &case.samples,
         &mut path,
         &mut vec![0.0; cells],
         &mut vec![0; cells],
-    )
+    );
+    (path, answer)
+}
+
+fn viterbi(case: &Case) -> Answer {
+    decode(case).1
 }
 
 fn forward(case: &Case) -> Answer {
@@ -60,6 +66,12 @@ fn pass(case: &Case) -> (Answer, [Vec<f64>; 4]) {
     };
     let answer = reference::baum_welch(&case.model(), &case.samples, &mut new);
     (answer, [transition, emission, initial, end])
+}
+
+fn assert_decodes(case: &Case, path: &[u8], value: f64) {
+    let (decoded, answer) = decode(case);
+    assert_eq!(decoded, path);
+    assert!(answer.same_bits(&Answer::done(value)), "{answer:?} instead of {value}");
 }
 
 fn assert_refused(answer: Answer, refusal: u8, table: u8, place: usize) {
@@ -223,6 +235,28 @@ fn refusal_11_a_nan_epsilon() {
     assert_refused(leaves::cap_numerical_overshoot(-1.0, f64::NAN), OVERSHOOT, 0, 0);
     let Some(modes) = oracle::modes() else { return };
     assert_eq!((modes.published.leaves.cap_numerical_overshoot)(-1.0, f64::NAN), -1.0);
+}
+
+#[test]
+fn the_end_entry_is_in_the_value_of_the_best_path() {
+    let mut case = zeros(1, 1, true, &[0]);
+    case.end[0] = -1.0;
+    assert_decodes(&case, &[0], -1.0);
+    let Some(modes) = oracle::modes() else { return };
+    assert_eq!(bio(&modes, &case).viterbi(&[0]), (vec![0], 0.0));
+}
+
+#[test]
+fn the_end_entry_counts_in_the_choice_of_the_last_state() {
+    let mut case = zeros(2, 1, true, &[0]);
+    (case.initial, case.end) = (vec![-1.0, -2.0], vec![-3.0, -1.0]);
+    assert_decodes(&case, &[1], -3.0);
+    let Some(modes) = oracle::modes() else { return };
+    assert_eq!(bio(&modes, &case).viterbi(&[0]), (vec![0], -1.0));
+    // Without an end state both give bio's answer.
+    (case.shape.ends, case.end) = (false, vec![0.0; 2]);
+    assert_decodes(&case, &[0], -1.0);
+    assert_eq!(bio(&modes, &case).viterbi(&[0]), (vec![0], -1.0));
 }
 
 #[test]

@@ -4,7 +4,7 @@ use crate::answer::Answer;
 use crate::model::{check, Empty, Model, Output};
 
 /// Writes the best path (one state for each sample), the value of each cell and the predecessor of each cell; the
-/// value is that of the path. Surplus of the outputs is left alone.
+/// value is the path's score, its end entry included where there is an end state. Surplus of the outputs is left alone.
 pub fn viterbi(model: &Model, samples: &[u16], path: &mut [u8], values: &mut [f64], from: &mut [u8]) -> Answer {
     let cells = model.shape.cells(samples.len());
     let outputs = || {
@@ -53,9 +53,10 @@ pub fn viterbi_unchecked(
         step(model, previous, *sample, row, row_from);
     }
     let last_row = &values[values.len() - states..];
-    let last = last_greatest(last_row);
+    let scores = last_row.iter().enumerate().map(|(j, value)| ended(model, j, *value));
+    let (last, score) = last_greatest(scores);
     trace_back(from, last, states, &mut path[..samples.len()]);
-    Answer::done(last_row[last])
+    Answer::done(score)
 }
 
 /// One later row: the best predecessor of each state and the cell's value.
@@ -88,15 +89,25 @@ fn best_predecessor(model: &Model, previous: &[f64], j: usize) -> (usize, f64) {
     (best, best_sum)
 }
 
-/// The highest-numbered of the greatest.
-fn last_greatest(row: &[f64]) -> usize {
-    let mut last = 0;
-    for (j, value) in row.iter().enumerate() {
-        if *value >= row[last] {
-            last = j;
+/// How a path's score ends, where j is its last state and this its value in the last row: with an end state the end entry
+/// is added, last of all. Without one nothing is, since -0.0 + 0.0 is +0.0.
+fn ended(model: &Model, j: usize, value: f64) -> f64 {
+    if model.shape.ends {
+        value + model.end[j]
+    } else {
+        value
+    }
+}
+
+/// The highest-numbered of the greatest scores, which start at state 0, and the score.
+fn last_greatest(scores: impl Iterator<Item = f64>) -> (usize, f64) {
+    let mut greatest = (0, f64::NEG_INFINITY);
+    for (j, score) in scores.enumerate() {
+        if score >= greatest.1 {
+            greatest = (j, score);
         }
     }
-    last
+    greatest
 }
 
 /// Fills the path from its last state backward.

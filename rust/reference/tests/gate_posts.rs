@@ -9,6 +9,7 @@ const LN_2: f64 = 0.6931471805599453;
 
 struct Tables {
     states: usize,
+    ends: bool,
     transition: Vec<f64>,
     emission: Vec<f64>,
     initial: Vec<f64>,
@@ -21,7 +22,7 @@ impl Tables {
             shape: Shape {
                 states: self.states,
                 symbols: 2,
-                ends: false,
+                ends: self.ends,
             },
             transition: &self.transition,
             emission: &self.emission,
@@ -33,17 +34,17 @@ impl Tables {
 
 fn model_p() -> Tables {
     Tables {
-        states: 2,
         transition: vec![-1.0, -2.0, -2.0, -1.0],
         emission: vec![-1.0, -3.0, -3.0, -1.0],
         initial: vec![-1.0, -2.0],
-        end: vec![0.0; 2],
+        ..all_zero(2)
     }
 }
 
 fn all_zero(states: usize) -> Tables {
     Tables {
         states,
+        ends: false,
         transition: vec![0.0; states * states],
         emission: vec![0.0; states * 2],
         initial: vec![0.0; states],
@@ -74,18 +75,19 @@ fn assert_answer(answer: Answer, refusal: u8, table: u8, place: usize, value: f6
     assert!(answer.same_bits(&expected), "{answer:?} instead of {expected:?}");
 }
 
+/// Decodes to this path and value, to the bit.
+fn assert_decodes(tables: &Tables, samples: &[u16], path: &[u8], value: f64) {
+    let (decoded, answer) = decode(tables, samples);
+    assert_eq!(decoded, path);
+    assert_answer(answer, 0, 0, 0, value);
+}
+
 #[test]
 fn p1_p2_p3_p4_paths_and_a_wrong_sample() {
     let p = model_p();
-    let (path, answer) = decode(&p, &[0, 1, 1]);
-    assert_eq!(path, [0, 1, 1]);
-    assert_answer(answer, 0, 0, 0, -7.0);
-    let (path, answer) = decode(&p, &[1]);
-    assert_eq!(path, [1]);
-    assert_answer(answer, 0, 0, 0, -3.0);
-    let (path, answer) = decode(&p, &[]);
-    assert!(path.is_empty());
-    assert_answer(answer, 0, 0, 0, MINUS);
+    assert_decodes(&p, &[0, 1, 1], &[0, 1, 1], -7.0);
+    assert_decodes(&p, &[1], &[1], -3.0);
+    assert_decodes(&p, &[], &[], MINUS);
     assert_answer(decode(&p, &[0, 1, 2]).1, 8, 4, 2, MINUS);
 }
 
@@ -104,17 +106,31 @@ fn p5_p6_entries_that_are_not_good() {
 #[test]
 fn z1_z2_z3_ties_likelihood_and_nothing_reachable() {
     let z = all_zero(2);
-    let (path, answer) = decode(&z, &[0, 0]);
-    assert_eq!(path, [1, 1]);
-    assert_answer(answer, 0, 0, 0, 0.0);
+    assert_decodes(&z, &[0, 0], &[1, 1], 0.0);
     let mut values = [0.0; 2];
     assert_answer(forward(&z.model(), &[0], &mut values), 0, 0, 0, LN_2);
     assert_answer(backward(&z.model(), &[0], &mut values), 0, 0, 0, LN_2);
     let mut three = all_zero(3);
     three.initial.fill(MINUS);
-    let (path, answer) = decode(&three, &[0, 0]);
-    assert_eq!(path, [2, 2]);
-    assert_answer(answer, 0, 0, 0, MINUS);
+    assert_decodes(&three, &[0, 0], &[2, 2], MINUS);
+}
+
+#[test]
+fn e1_e2_the_way_out_chooses_the_last_state() {
+    let mut exit = model_p();
+    (exit.ends, exit.end) = (true, vec![0.0, -4.0]);
+    assert_decodes(&exit, &[0, 1, 1], &[0, 1, 0], -10.0);
+    exit.end[0] = -1.0;
+    assert_decodes(&exit, &[0, 1, 1], &[0, 1, 1], -11.0);
+}
+
+#[test]
+fn e3_without_an_end_state_nothing_is_added() {
+    let mut zeros = all_zero(2);
+    (zeros.emission, zeros.initial) = (vec![-0.0; 4], vec![-0.0; 2]);
+    assert_decodes(&zeros, &[0], &[1], -0.0);
+    zeros.ends = true;
+    assert_decodes(&zeros, &[0], &[1], 0.0);
 }
 
 #[test]

@@ -23,7 +23,8 @@ pub struct Shape {
     pub states: usize,
     /// M, from 1 to 256.
     pub symbols: usize,
-    /// Whether there is an end state. Without one the end table is all +0.0.
+    /// Whether there is an end state. With one every walk counts the end entry of the state at the last sample, the best
+    /// path too; without one the end table is all +0.0.
     pub ends: bool,
 }
 
@@ -81,7 +82,7 @@ pub struct Model<'a> {
     pub emission: &'a [f64],
     /// S entries.
     pub initial: &'a [f64],
-    /// S entries; without an end state each is +0.0.
+    /// S entries: entry j is from state j to the end state. Without an end state each is +0.0.
     pub end: &'a [f64],
 }
 

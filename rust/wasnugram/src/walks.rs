@@ -27,7 +27,8 @@ pub struct Decoded<'a> {
     /// One state for each sample: the part of the lent path that was written. It means something only where
     /// [`is_possible`](Decoded::is_possible) says so.
     pub path: &'a [u8],
-    /// The path's score; minus infinity where no path explains the samples, and for no samples.
+    /// The path's score, with an end state the last state's end entry included; minus infinity where no path explains the
+    /// samples, and for no samples.
     pub value: f64,
 }
 
@@ -40,7 +41,8 @@ impl Decoded<'_> {
 }
 
 /// The best path (RULES, section 6.1). Writes the path (T states), the value of each cell and the state before each cell
-/// (T·S each, by rows).
+/// (T·S each, by rows). With an end state the last state's end entry is added last, and the path ends in the
+/// highest-numbered state of the greatest sums; without one nothing is added.
 ///
 /// ```
 /// use wasnugram::{viterbi, Model, Refusal, Shape, Table};
@@ -65,6 +67,20 @@ impl Decoded<'_> {
 /// let decoded = viterbi(&mute, &samples, &mut path, &mut values, &mut from)?;
 /// assert!(!decoded.is_possible());
 /// assert_eq!(decoded.value, f64::NEG_INFINITY);
+///
+/// // An exit lane: without an end state the path ends where the last value is greatest, and with one the way out counts.
+/// let endless = Model {
+///     shape: Shape { states: 2, symbols: 1, ends: false },
+///     transition: &[0.0; 4],
+///     emission: &[0.0; 2],
+///     initial: &[-1.0, -2.0],
+///     end: &[0.0; 2],
+/// };
+/// let decoded = viterbi(&endless, &[0], &mut path, &mut values, &mut from)?;
+/// assert_eq!((decoded.path, decoded.value), (&[0][..], -1.0));
+/// let exit = Model { shape: Shape { ends: true, ..endless.shape }, end: &[-3.0, -1.0], ..endless };
+/// let decoded = viterbi(&exit, &[0], &mut path, &mut values, &mut from)?;
+/// assert_eq!((decoded.path, decoded.value), (&[1][..], -3.0));
 ///
 /// // A path of two bytes is too short for three samples: output 5, of length 2.
 /// let short = viterbi(&model, &samples, &mut path[..2], &mut values, &mut from).unwrap_err();

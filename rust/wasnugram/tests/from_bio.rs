@@ -58,6 +58,29 @@ fn best_path_and_refusal() -> Result<(), Refused> {
     })
 }
 
+/// bio's side of it is `the_end_entry_counts_in_the_choice_of_the_last_state` in compare/tests/intended_differences.rs.
+#[test]
+#[rustfmt::skip]
+fn the_best_path_counts_the_end_state() -> Result<(), Refused> {
+    let exit = Model {
+        shape: Shape { states: 2, symbols: 1, ends: true },
+        transition: &[0.0; 4],
+        emission: &[0.0; 2],
+        initial: &[-1.0, -2.0],
+        end: &[-3.0, -1.0],
+    };
+    let (mut path, mut values, mut from) = ([0], [0.0; 2], [0; 2]);
+    let decoded = viterbi(&exit, &[0], &mut path, &mut values, &mut from)?;
+    assert_eq!((decoded.path, decoded.value), (&[1][..], -3.0));
+    let tables = (values, from);
+
+    let as_in_bio = Model { shape: Shape { ends: false, ..exit.shape }, end: &[0.0; 2], ..exit };
+    let decoded = viterbi(&as_in_bio, &[0], &mut path, &mut values, &mut from)?;
+    assert_eq!((decoded.path, decoded.value), (&[0][..], -1.0));
+    assert_eq!((values, from), tables);
+    Ok(())
+}
+
 #[test]
 #[rustfmt::skip]
 fn logarithms_are_carried_by_their_bits() -> Result<(), Refused> {
@@ -205,7 +228,7 @@ fn every_block_of_the_page_is_in_this_file() {
         .skip(1)
         .map(|rest| rest.split("```").next().unwrap())
         .collect();
-    assert_eq!(blocks.len(), 10);
+    assert_eq!(blocks.len(), 12);
     for block in blocks {
         assert!(here.contains(&bare(block)), "not compiled here:\n{block}");
     }

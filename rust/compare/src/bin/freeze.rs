@@ -17,6 +17,26 @@ use std::process::ExitCode;
 
 const SEED: u64 = 422;
 
+const MINUS: f64 = f64::NEG_INFINITY;
+
+/// Initial tables, each with end tables on which the whole path depends, in models whose states are never left.
+const WAYS_OUT: [(&[f64], &[&[f64]]); 7] = [
+    // The best of the last row is not the best of the sums; there is no way out of it; there is none at all.
+    (&[-1.0, -2.0], &[&[-3.0, -1.0], &[MINUS, -1.0], &[MINUS, MINUS]]),
+    // There is no way out of the only state that is reached.
+    (&[-1.0, MINUS], &[&[MINUS, -1.0]]),
+    // All sums tie; the first two do.
+    (&[-1.0, -2.0, -3.0], &[&[-3.0, -2.0, -1.0], &[-2.0, -1.0, -1.0]]),
+    // Two sums tie, and the value of the third is above both.
+    (&[-3.0, -2.0, -1.0], &[&[-1.0, -2.0, -3.5]]),
+    // A tie by rounding.
+    (&[-9007199254740992.0, -9007199254740992.0], &[&[-0.0, -1.0]]),
+    // Zeros of both signs tie, and the value has the sign of the highest-numbered.
+    (&[-0.0, -0.0], &[&[0.0, -0.0], &[-0.0, 0.0]]),
+    // A sum overflows to minus infinity.
+    (&[-1e308, -1.5e308], &[&[-1e308, -0.0]]),
+];
+
 fn main() -> ExitCode {
     let Some(path) = std::env::args().nth(1) else {
         eprintln!("usage: freeze FILE");
@@ -32,6 +52,7 @@ fn main() -> ExitCode {
         cases: Vec::new(),
     };
     list.gate_posts();
+    list.ends();
     list.models();
     list.damaged();
     list.kernels();
@@ -89,17 +110,25 @@ impl List {
             Call::BaumWelch => likeness::pass(&self.modes.kernels, case),
         };
         must_agree(call.name(), &verdict);
+        if call == Call::Viterbi && case.shape.ends {
+            must_agree(
+                "viterbi to the end",
+                &likeness::viterbi_to_the_end(&self.modes.published, case),
+            );
+        }
     }
 
     /// The models of the gate-post examples and of the intended differences, on all calls.
     fn gate_posts(&mut self) {
         let [p, z] = [model_p(), zeros(2)];
         let mut unreachable = zeros(3);
-        unreachable.initial.fill(f64::NEG_INFINITY);
+        unreachable.initial.fill(MINUS);
         let mut above_zero = zeros(1);
         (above_zero.transition, above_zero.emission, above_zero.initial) = (vec![-0.1], vec![-0.1, -0.1], vec![-0.9]);
         let mut nearly_massless = zeros(2);
         nearly_massless.initial[0] = -25.0;
+        let mut exit = zeros(2);
+        (exit.initial, exit.end, exit.shape.ends) = (vec![-1.0, -2.0], vec![-3.0, -1.0], true);
         let models = [
             (p.clone(), vec![0, 1, 1]),
             (p.clone(), vec![1]),
@@ -109,10 +138,23 @@ impl List {
             (unreachable, vec![0, 0]),
             (above_zero, vec![0, 0]),
             (nearly_massless, vec![0, 0]),
+            (exit.without_end_state(), vec![0]),
+            (exit, vec![0]),
         ];
         for (model, samples) in models {
             let case = Case { samples, ..model };
             CALLS.into_iter().for_each(|call| self.call(call, &case, 1));
+        }
+    }
+
+    /// Models whose best path depends on the end table, and the same without an end state, on all calls.
+    fn ends(&mut self) {
+        for (initial, ends) in WAYS_OUT {
+            let mut cases: Vec<Case> = ends.iter().map(|end| never_left(initial, end)).collect();
+            cases.push(cases[0].without_end_state());
+            for case in &cases {
+                CALLS.into_iter().for_each(|call| self.call(call, case, 1));
+            }
         }
     }
 
@@ -211,11 +253,11 @@ impl List {
         self.leaves_on(f64::NAN, -1.0, &[-1.0, f64::NAN]);
         self.leaves_on(-1.0, f64::NAN, &[f64::INFINITY, -1.0]);
         self.leaves_on(-2.0, -1.0, &[]);
-        self.leaves_on(1.0, 0.5, &[f64::NEG_INFINITY]);
+        self.leaves_on(1.0, 0.5, &[MINUS]);
         self.leaves_on(f64::INFINITY, f64::INFINITY, &[-0.0]);
         self.leaves_on(0.0, -0.0, &[-3.0, -1.0, -2.0, -1.0]);
-        self.leaves_on(-0.0, 0.0, &[f64::NEG_INFINITY, -700.0, -1.0]);
-        self.leaves_on(f64::NEG_INFINITY, -1.0, &[-1e308, -1.0, 1e308]);
+        self.leaves_on(-0.0, 0.0, &[MINUS, -700.0, -1.0]);
+        self.leaves_on(MINUS, -1.0, &[-1e308, -1.0, 1e308]);
     }
 
     /// exp and ln on dense grids.
@@ -300,6 +342,26 @@ fn zeros(states: usize) -> Case {
         initial: vec![0.0; states],
         end: vec![0.0; states],
         samples: Vec::new(),
+    }
+}
+
+/// Two samples of one symbol, and states that are never left. What is not given is -0.0, which adds nothing even to a zero.
+fn never_left(initial: &[f64], end: &[f64]) -> Case {
+    let states = initial.len();
+    let stays = |place: usize| place / states == place % states;
+    Case {
+        shape: Shape {
+            states,
+            symbols: 1,
+            ends: true,
+        },
+        transition: (0..states * states)
+            .map(|place| if stays(place) { -0.0 } else { MINUS })
+            .collect(),
+        emission: vec![-0.0; states],
+        initial: initial.to_vec(),
+        end: end.to_vec(),
+        samples: vec![0, 0],
     }
 }
 
