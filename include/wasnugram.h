@@ -27,7 +27,7 @@
  *   table 0  transition  S*S entries   entry k*S + j: from state k to state j
  *   table 1  emission    S*M entries   entry j*M + x: symbol x in state j
  *   table 2  initial     S entries
- *   table 3  end         S entries     without an end state every entry must be +0.0
+ *   table 3  end         S entries     entry j: from state j to the end state; without one every entry must be +0.0
  *
  * S is 1 to 64, M 1 to 256. Table 4 is the samples, T of them, 0 to 4,096, each below M. Outputs are numbered from 5 in argument order.
  *
@@ -218,8 +218,8 @@ static inline int wasnugram_is_possible(wasnugram_answer answer) {
  *
  * The value is the best path's score: the sum from the left of initial, emission, transition, emission and so on. With an end state the
  * last state's end entry is added last: the way out counts, as in forward, backward and a training pass. Without one nothing is added, so
- * that -0.0 stays -0.0. `values` and `from` hold nothing of the end table. The Rust crate bio 4.2.2 differs: its Viterbi leaves the end
- * table out.
+ * that -0.0 stays -0.0. `values` and `from` hold nothing of the end table. The Rust crate bio 4.2.2 differs, whose Viterbi leaves the end
+ * table out: with initial (-1, -2), end (-3, -1), an end state and all else 0, one sample is state 1 here and state 0 there.
  *
  * Ties. The highest-numbered of the best wins, among predecessors as for the last state. A predecessor at minus infinity ranks below
  * every other one; the rest rank by value + transition. Last states rank by value, with an end state by value + end.
