@@ -219,7 +219,8 @@ static inline int wasnugram_is_possible(wasnugram_answer answer) {
  * The value is the best path's score: the sum from the left of initial, emission, transition, emission and so on. With an end state the
  * last state's end entry is added last: the way out counts, as in forward, backward and a training pass. Without one nothing is added, so
  * that -0.0 stays -0.0. `values` and `from` hold nothing of the end table. The Rust crate bio 4.2.2 differs, whose Viterbi leaves the end
- * table out: with initial (-1, -2), end (-3, -1), an end state and all else 0, one sample is state 1 here and state 0 there.
+ * table out: with initial (-1, -2), end (-3, -1), an end state and all else 0, one sample is state 1 here and state 0 there. So set `ends`
+ * only where each passage is lent to its end: one that was cut off is bent towards a state in which passages end.
  *
  * Ties. The highest-numbered of the best wins, among predecessors as for the last state. A predecessor at minus infinity ranks below
  * every other one; the rest rank by value + transition. Last states rank by value, with an end state by value + end.

@@ -1,6 +1,6 @@
 -- How a score ends, `closed`: what the laws of the walk need of it, so that none of them looks into it.
 use Prim.Native.Nat.{ℕ}
-use mathlib.Core.Path.{_≡_, refl, sym}
+use mathlib.Core.Path.{_≡_, sym}
 use mathlib.Core.Bool.{Bool, true, false, true≢false}
 use lib.Dec.{T}
 use lib.Ieee.{Float, binary64, le}

@@ -1,12 +1,12 @@
 -- The rows of a best path do not read the end: they are the same with any.
 use Prim.Native.Nat.{ℕ, zero, suc, _*_}
-use mathlib.Core.Path.{_≡_, refl, sym, ap, ap₂, fun-ext, _∙_}
+use mathlib.Core.Path.{_≡_, refl, sym, ap, fun-ext, _∙_}
 use mathlib.Core.Bool.{Bool, true}
 use mathlib.Core.List.{List}
-use lib.ListN.{length, take}
+use lib.ListN.{take}
 use lib.Ieee.{Float}
 use Rattle.floats.specs.Float.{at}
-use Rattle.lists.specs.Lists.{table}
+use Rattle.lists.specs.Lists.{table, after}
 use Rattle.answer.specs.Answer.{isDone, done}
 use Rattle.answer.specs.declared.Answer.{Answer}
 use Rattle.model.specs.Lent.{Lent, S, T}
@@ -36,44 +36,36 @@ module _ (l : Lent) (ends : Bool) (end : ℕ → Float) where
   same-from zero = refl
   same-from (suc t) = fun-ext (λ (j : ℕ). ap (λ (v : ℕ → Float). predecessor (S l) v (λ (k : ℕ). m .transition k j)) (same-row t))
 
-  same-values : table (T l) (S l) (value h) ≡ table (T l) (S l) (value m)
-  same-values = ap (table (T l) (S l)) (fun-ext same-row)
-
-  same-froms : table (T l) (S l) (from h) ≡ table (T l) (S l) (from m)
-  same-froms = ap (table (T l) (S l)) (fun-ext same-from)
-
--- ---- of two calls that are done
--- what is left of one
-module _ (l : Lent) (o e : Outputs) (r : Answer) (p : Decoded l o r e) (d : isDone r ≡ true) where
-  passed : isDone (checked l o) ≡ true
-  passed = checks-done (checked l o) (done (bestValue (modelOf l) (T l))) r (p .answer) d .0
-
-  values-left : take (T l * S l) (e .values) ≡ table (T l) (S l) (value (modelOf l))
-  values-left = rows-front _ (T l) (S l) (value (modelOf l)) (o .values) (e .values) (p .values) passed
-
-  from-left : take (T l * S l) (e .from) ≡ table (T l) (S l) (from (modelOf l))
-  from-left = rows-front _ (T l) (S l) (from (modelOf l)) (o .from) (e .from) (p .from) passed
-
+-- ---- two calls
 module _ (l l' : Lent) (q : SameButForTheEnd l l') where
-  size : T l * S l ≡ T l' * S l'
-  size = ap₂ _*_ (ap length (q .samples)) (q .states)
-
-  -- the one's end
+  -- the first one's end
   abbrev ends : Bool
   ends = l .tables .shape .ends
 
-  abbrev end : List Float
-  end = l .tables .end
+  abbrev end : ℕ → Float
+  end = at (l .tables .end)
 
-  values-too : table (T l) (S l) (value (modelOf l)) ≡ table (T l') (S l') (value (modelOf l'))
-  values-too = rw (q .states, q .symbols, q .transition, q .emission, q .initial, q .samples) (same-values l' ends (at end))
+  values-same : value (modelOf l) ≡ value (modelOf l')
+  values-same = rw (q .states, q .symbols, q .transition, q .emission, q .initial, q .samples) (fun-ext (same-row l' ends end))
 
-  froms-too : table (T l) (S l) (from (modelOf l)) ≡ table (T l') (S l') (from (modelOf l'))
-  froms-too = rw (q .states, q .symbols, q .transition, q .emission, q .initial, q .samples) (same-froms l' ends (at end))
+  from-same : from (modelOf l) ≡ from (modelOf l')
+  from-same = rw (q .states, q .symbols, q .transition, q .emission, q .initial, q .samples) (fun-ext (same-from l' ends end))
+
+  -- an output of a row for each sample, which both have written by the same rule
+  rows-same : {A : Type 0} (f f' : ℕ → ℕ → A) → f ≡ f' → (b b' : Bool) → b ≡ true → b' ≡ true → (o e o' e' : List A)
+      → e ≡ after b (table (T l) (S l) f) o → e' ≡ after b' (table (T l') (S l') f') o' → take (T l * S l) e ≡ take (T l * S l) e'
+  rows-same f f' same b b' d d' o e o' e' h h' =
+      rows-front b (T l) (S l) f o e h d
+      ∙ rw (same, q .samples, q .states) (sym (rows-front b' (T l') (S l') f' o' e' h' d'))
+
+-- the checks of a call that is done are passed
+passed : (l : Lent) (o e : Outputs) (r : Answer) → Decoded l o r e → isDone r ≡ true → isDone (checked l o) ≡ true
+passed l o e r p d = checks-done (checked l o) (done (bestValue (modelOf l) (T l))) r (p .answer) d .0
 
 pub end-moves-no-row : EndMovesNoRow
-end-moves-no-row l l' o e o' e' r r' q p d p' d' = (
-  values-left l o e r p d ∙ values-too l l' q ∙ sym (values-left l' o' e' r' p' d')
-      ∙ ap (λ (n : ℕ). take n (e' .values)) (sym (size l l' q)),
-  from-left l o e r p d ∙ froms-too l l' q ∙ sym (from-left l' o' e' r' p' d') ∙ ap (λ (n : ℕ). take n (e' .from)) (sym (size l l' q)),
-)
+end-moves-no-row l l' o e o' e' r r' q p d p' d' =
+    let b = passed l o e r p d in
+    let b' = passed l' o' e' r' p' d' in (
+      rows-same l l' q (value (modelOf l)) _ (values-same l l' q) _ _ b b' _ _ _ _ (p .values) (p' .values),
+      rows-same l l' q (from (modelOf l)) _ (from-same l l' q) _ _ b b' _ _ _ _ (p .from) (p' .from),
+    )

@@ -13,7 +13,7 @@ use model::Shape;
 ghost use mathlib.Core.Path.{_≡_};
 ghost use Rattle.model.specs.Lent.{lent};
 ghost use Rattle.viterbi.specs.Call.{Decoded, outputs};
-ghost use Rattle.viterbi.specs.inner.Parts.{checkedFor, Decodable, Found};
+ghost use Rattle.viterbi.specs.inner.Parts.{checkedFor, Decodable, FoundOf};
 
 // The walk over one sample or more, once the checks are passed: the best path's value. The rows take no end table; the last state and the
 // value do.
@@ -30,7 +30,7 @@ fn decode(
 ) -> f64
     requires { ⌜ Decodable
         (lent shape (now transition) (now emission) (now initial) (now end) (now samples)) (outputs (now path) (now values) (now from)) ⌝ }
-    ensures { λ r. ⌜ Found
+    ensures { λ r. ⌜ FoundOf
         (lent shape (now (transition .entry)) (now (emission .entry)) (now (initial .entry)) (now (end .entry)) (now (samples .entry)))
         (outputs (now (path .entry)) (now (values .entry)) (now (from .entry)))
         r

@@ -8,7 +8,7 @@ use lib.Ieee.{Float}
 use Rattle.lists.specs.Lists.{over}
 use Rattle.answer.specs.declared.Answer.{Answer}
 use Rattle.model.specs.Lent.{Lent, S, M, T}
-use Rattle.model.specs.Model.{modelOf}
+use Rattle.model.specs.Model.{Model, modelOf}
 use Rattle.checks.specs.Rooms.{room}
 use Rattle.checks.specs.Checks.{check}
 use Rattle.best_path.specs.Walk.{bestPath, bestValue}
@@ -28,8 +28,12 @@ pub record Decodable (l : Lent) (o : Outputs) : Type 0 where
   pub someSample : 0 < T l
   pub pathRoom : T l ≤ length (o .path)
 
--- the value that is found, and what the outputs o hold at the end
-pub record Found (l : Lent) (o : Outputs) (r : Float) (e : Outputs) : Type 0 where
-  pub valueFound : r ≡ bestValue (modelOf l) (T l)
-  pub pathStored : e .path ≡ over 0 (bestPath (modelOf l) (T l)) (o .path)
-  pub rowsFilled : Filled (modelOf l) (T l) (o .values) (e .values) (o .from) (e .from)
+-- the value that is found for n samples of a model, and what the outputs o hold at the end
+pub record Found (m : Model) (n : ℕ) (o : Outputs) (r : Float) (e : Outputs) : Type 0 where
+  pub valueFound : r ≡ bestValue m n
+  pub pathStored : e .path ≡ over 0 (bestPath m n) (o .path)
+  pub rowsFilled : Filled m n (o .values) (e .values) (o .from) (e .from)
+
+-- for what a call is lent
+abbrev pub FoundOf : Lent → Outputs → Float → Outputs → Type 0
+FoundOf l = Found (modelOf l) (T l)

@@ -118,7 +118,7 @@ impl List {
         }
     }
 
-    /// The models of the gate-post examples and of the intended differences, on all calls.
+    /// The models of the gate-post examples, but for E1 to E3, and of the intended differences, on all calls.
     fn gate_posts(&mut self) {
         let [p, z] = [model_p(), zeros(2)];
         let mut unreachable = zeros(3);
@@ -147,14 +147,15 @@ impl List {
         }
     }
 
-    /// Models whose best path depends on the end table, and the same without an end state, on all calls.
+    /// Models whose best path depends on the end table, E1 to E3 first, and the same without an end state, on all calls.
     fn ends(&mut self) {
+        let mut cases = examples_of_the_way_out().to_vec();
         for (initial, ends) in WAYS_OUT {
-            let mut cases: Vec<Case> = ends.iter().map(|end| never_left(initial, end)).collect();
-            cases.push(cases[0].without_end_state());
-            for case in &cases {
-                CALLS.into_iter().for_each(|call| self.call(call, case, 1));
-            }
+            cases.extend(ends.iter().map(|end| never_left(initial, end)));
+            cases.push(never_left(initial, ends[0]).without_end_state());
+        }
+        for case in &cases {
+            CALLS.into_iter().for_each(|call| self.call(call, case, 1));
         }
     }
 
@@ -343,6 +344,17 @@ fn zeros(states: usize) -> Case {
         end: vec![0.0; states],
         samples: Vec::new(),
     }
+}
+
+/// The gate-post examples E1, E2 and E3, the last with an end state and without one.
+fn examples_of_the_way_out() -> [Case; 4] {
+    let [mut dear, mut minus_zeros] = [model_p(), zeros(2)];
+    (dear.end, dear.shape.ends, dear.samples) = (vec![0.0, -4.0], true, vec![0, 1, 1]);
+    let mut equal = dear.clone();
+    equal.end[0] = -1.0;
+    (minus_zeros.initial, minus_zeros.emission) = (vec![-0.0; 2], vec![-0.0; 4]);
+    (minus_zeros.shape.ends, minus_zeros.samples) = (true, vec![0]);
+    [dear, equal, minus_zeros.without_end_state(), minus_zeros]
 }
 
 /// Two samples of one symbol, and states that are never left. What is not given is -0.0, which adds nothing even to a zero.
