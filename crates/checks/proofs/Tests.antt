@@ -4,9 +4,9 @@ use mathlib.Core.Path.{_≡_, refl, ap}
 use mathlib.Core.Bool.{Bool, true, false, true≢false, not, _&&_, _||_}
 use mathlib.Core.List.{List}
 use native.Mathlib.Omega.{arith}
-use lib.Dec.{T, eqb, ltb}
+use lib.Dec.{T, eqb, leb, ltb}
 use lib.ListN.{length, getD}
-use borrow.Author.Tests.{eq-eqb, ne-eqb, eqb-false, lt-ltb, le-ltb, ltb-false}
+use borrow.Author.Tests.{eq-eqb, ne-eqb, eqb-false, lt-ltb, le-ltb, le-leb, lt-leb, ltb-true, ltb-false}
 use Rattle.lists.specs.Lists.{firstBad, someBad}
 use Rattle.lists.proofs.Scan.{all-pass, pass-all}
 
@@ -61,3 +61,11 @@ module _ {A : Type 0} (p : A → Bool) (xs : List A) where
 
   pub no-bad : (d : A) → ((i : ℕ) → i < length xs → T (p (getD xs i d))) → someBad p xs ≡ false
   no-bad d h = le-ltb _ _ (pass-all p d xs (λ (i : ℕ) l. is-true _ (h i l)))
+
+  -- nor does any below the list's end, said both ways
+  pub none-below : (i : ℕ) → length xs ≤ i → i ≤ length xs → leb i (firstBad p xs) ≡ not (someBad p xs)
+  none-below i h k = go (someBad p xs) refl
+    where
+      go : (b : Bool) → someBad p xs ≡ b → leb i (firstBad p xs) ≡ not b
+      go true e = let l = ltb-true (firstBad p xs) (length xs) e in lt-leb i (firstBad p xs) (omega arith)
+      go false e = let l = ltb-false (firstBad p xs) (length xs) e in le-leb i (firstBad p xs) (omega arith)

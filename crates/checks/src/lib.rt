@@ -8,13 +8,13 @@ use answer::refused;
 use floats::minus_infinity;
 use model::Shape;
 use model::is_good_end;
+use model::is_set;
+use model::mark;
 ghost use mathlib.Core.Path.{_≡_};
-ghost use mathlib.Core.Bool.{true, false, _&&_, _||_};
+ghost use mathlib.Core.Bool.{true, false, not, _&&_, _||_};
 ghost use mathlib.Core.List.{[], _∷_};
-ghost use Prim.Native.Nat.{_+_, _≤_};
 ghost use lib.Dec.{eqb, ltb};
-ghost use lib.ListN.{length};
-ghost use Rattle.lists.specs.Lists.{firstBad};
+ghost use Rattle.lists.specs.Lists.{firstBad, someBad};
 ghost use Rattle.answer.specs.Checks.{firstOf};
 ghost use Rattle.model.specs.Lent as Lent;
 ghost use Rattle.model.specs.Lent.{tablesOf};
@@ -22,6 +22,9 @@ ghost use Rattle.model.specs.Good.{good, goodEnd};
 ghost use Rattle.checks.specs.Rooms.{room, roomsOf};
 ghost use Rattle.checks.specs.Checks.{shapeTests, countTests, unfitTest, roomTests, entryTests, isSymbol, sampleTests};
 ghost use Rattle.checks.specs.inner.Parts.{Numbered, sizesOf, restTests};
+
+// How many entries are looked at as one.
+const BLOCK: usize = 128;
 
 // Whether a number of states or symbols is 0 or above the most that there may be.
 fn is_out_of_range(count: usize, most: usize) -> bool
@@ -112,11 +115,33 @@ pub fn first_bad_end(ends: bool, table: &[f64]) -> usize
     i
 }
 
-// The first place of any other table whose entry is not good, or the table's length: its rule is that of an end state's table.
+// Whether every entry is good. No entry has a branch of its own: the marks are gathered, and their top bit is looked at once.
+fn are_good(table: &[f64]) -> bool
+    ensures { λ r. ⌜ r ≡ not (someBad good (now (table .entry))) ⌝ }
+{
+    let mut marks = u64::MAX;
+    let mut i = 0;
+    while i < table.len() {
+        marks &= mark(table[i]);
+        i += 1;
+    }
+    is_set(marks)
+}
+
+// The first place of any other table whose entry is not good, or the table's length. Whole blocks of entries are looked at as one, and the
+// place is searched from the first block on that is not good, or where no whole block is left.
 pub fn first_bad(table: &[f64]) -> usize
     ensures { λ r. ⌜ r ≡ firstBad good (now (table .entry)) ⌝ }
 {
-    first_bad_end(true, table)
+    let mut start = 0;
+    while BLOCK <= table.len() - start {
+        let end = start + BLOCK;
+        if !are_good(&table[start..end]) {
+            break;
+        }
+        start = end;
+    }
+    start + first_bad_end(true, &table[start..])
 }
 
 // Refusal 7.

@@ -9,5 +9,6 @@ pub mod Sign
 pub mod Unit
 pub mod Fraction
 pub mod PlusZero
+pub mod Bits
 pub mod Largest
 pub mod Ceiling

@@ -7,11 +7,11 @@ use lib.Ieee.{Float, nan, inf, fin, Format, binary64, prec, emax, low, up, down,
 use lib.Ieee.Fits.{round-is}
 use Rattle.floats.specs.inner.Sign.{hasSign, nonneg, nonpos}
 
-own : (s : Bool) → T (Bool·beq s s)
+pub own : (s : Bool) → T (Bool·beq s s)
 own true = tt
 own false = tt
 
-odd-sign : (s : Bool) (d q k l : ℕ) → T (hasSign s (odd d s q k l))
+pub odd-sign : (s : Bool) (d q k l : ℕ) → T (hasSign s (odd d s q k l))
 unfolding odd
 odd-sign s d zero k l = own s
 odd-sign s d (suc q) k l = own s

@@ -1,15 +1,20 @@
 -- The first place that fails a test: what a loop that looks for it knows at place i, and what it has found when it stops.
-use Prim.Native.Nat.{ℕ, zero, suc, _+_, _≤_, _<_, suc-le-suc}
-use mathlib.Core.Path.{_≡_, refl, sym, _∙_}
-use mathlib.Core.Bool.{Bool, true, false, true≢false, cond}
+use Prim.Native.Nat.{ℕ, zero, suc, _+_, _-_, _≤_, _<_, suc-le-suc}
+use mathlib.Core.Path.{_≡_, refl, sym, ap, _∙_, subst}
+use mathlib.Core.Bool.{Bool, true, false, true≢false, cond, _&&_}
 use mathlib.Core.List.{List, [], _∷_}
 use native.Mathlib.Numerals.{add-one}
-use native.Mathlib.Nat.{zero-add, not-suc-le-zero, le-of-suc-le-suc}
+use native.Mathlib.Nat.{zero-add, le-of-eq, not-suc-le-zero, le-of-suc-le-suc}
 use native.Mathlib.Omega.{arith}
-use lib.ListN.{length, getD, drop, drop-of-length-le}
-use lib.Seq.{drop-cons}
-use Rattle.lists.specs.Lists.{firstBad}
+use lib.Dec.{leb, ltb}
+use borrow.Author.Tests.{leb-true, leb-false, le-ltb, ltb-false}
+use lib.ListN.{length, getD, take, drop, length-drop, drop-of-length-le}
+use lib.Seq.{take-all, drop-cons, drop-drop}
+use Rattle.lists.specs.Lists.{firstBad, someBad}
 use Rattle.lists.proofs.Places.{at-most}
+
+suc-test : (a b : ℕ) → ltb (suc a) (suc b) ≡ false → ltb a b ≡ false
+suc-test a b e = let h = ltb-false (suc a) (suc b) e in le-ltb a b (omega arith)
 
 module _ {A : Type 0} (p : A → Bool) (xs : List A) where
   -- every element below i passes the test
@@ -40,6 +45,37 @@ module _ {A : Type 0} (p : A → Bool) (xs : List A) where
       let s : firstBad p (drop i xs) ≡ 0 = rw (drop-of-length-le xs h) in
       omega arith
 
+  -- ---- a part of the list, looked at as one
+  skip : (n : ℕ) (ys : List A) → n ≤ length ys → someBad p (take n ys) ≡ false → firstBad p ys ≡ n + firstBad p (drop n ys)
+  unfolding firstBad
+  skip zero ys h k = sym (zero-add _)
+  skip (suc n) [] h k = absurd (not-suc-le-zero h)
+  skip (suc n) (y ∷ ys) h k = go (p y) (skip n ys (le-of-suc-le-suc h)) k
+    where
+      v : ℕ
+      v = firstBad p (take n ys)
+
+      go :
+          (b : Bool) → (someBad p (take n ys) ≡ false → firstBad p ys ≡ n + firstBad p (drop n ys)) →
+          ltb (cond b (suc v) 0) (suc (length (take n ys))) ≡ false → cond b (suc (firstBad p ys)) 0 ≡ suc n + firstBad p (drop n ys)
+      go true more e = let s = more (suc-test v (length (take n ys)) e) in omega arith
+      go false more e = absurd (not-suc-le-zero (ltb-false 0 (suc (length (take n ys))) e))
+
+  pub passed-part : (i j : ℕ) → Passed i → i ≤ j → j ≤ length xs → someBad p (take (j - i) (drop i xs)) ≡ false → Passed j
+  passed-part i j inv h k e =
+      let long : j - i ≤ length (drop i xs) = rw (length-drop i xs) (omega arith) in
+      let there : i + (j - i) ≡ j = omega arith in
+      let end : drop (j - i) (drop i xs) ≡ drop j xs = drop-drop (j - i) i xs ∙ ap (λ (n : ℕ). drop n xs) there in
+      let s : firstBad p (drop i xs) ≡ j - i + firstBad p (drop j xs) = rw end at (skip (j - i) (drop i xs) long e) in
+      record { within = k; rest = omega arith }
+
+  -- what is found in the elements from i on
+  pub passed-rest : (i v : ℕ) → Passed i → v ≡ firstBad p (take (length xs - i) (drop i xs)) → i + v ≡ firstBad p xs
+  passed-rest i v inv e =
+      let all = take-all (length xs - i) (drop i xs) (le-of-eq (length-drop i xs)) in
+      let s : v ≡ firstBad p (drop i xs) = rw all at e in
+      omega arith
+
 -- ---- what the first place that fails is; d is what is read past the end
 module _ {A : Type 0} (good : A → Bool) (d : A) where
   -- v is the first place of xs whose element fails the test, or the length
@@ -64,6 +100,9 @@ module _ {A : Type 0} (good : A → Bool) (d : A) where
   scanned [] = record { within = omega arith; before = λ i l. absurd (none-before i l); there = λ l. absurd (not-suc-le-zero l) }
   scanned (x ∷ xs) = turn x xs (firstBad good xs) (good x) refl (scanned xs)
 
+  pub first-within : (xs : List A) → firstBad good xs ≤ length xs
+  first-within xs = scanned xs .within
+
   -- where it is not below the length, every element passes
   pub all-pass : (xs : List A) → length xs ≤ firstBad good xs → (i : ℕ) → i < length xs → good (getD xs i d) ≡ true
   all-pass xs h i l = scanned xs .before i (omega arith)
@@ -79,3 +118,19 @@ module _ {A : Type 0} (good : A → Bool) (d : A) where
 
   pub bad-first : (xs : List A) (q : ℕ) → q < length xs → good (getD xs q d) ≡ false → firstBad good xs ≤ q
   bad-first xs q h k = at-most _ q (λ (g : q < firstBad good xs). true≢false (sym (scanned xs .before q g) ∙ k))
+
+  -- no element below i fails and the one there passes: none below i + 1 fails
+  pub reaches-more : (xs : List A) (i : ℕ) → i < length xs → (leb i (firstBad good xs) && good (getD xs i d)) ≡ leb (i + 1) (firstBad good xs)
+  reaches-more xs i l = go (leb i v) (leb (i + 1) v) refl refl
+    where
+      v : ℕ
+      v = firstBad good xs
+
+      there : v ≡ i → good (getD xs i d) ≡ false
+      there e = subst (λ (j : ℕ). good (getD xs j d) ≡ false) e (scanned xs .there (omega arith))
+
+      go : (a b : Bool) → leb i v ≡ a → leb (i + 1) v ≡ b → (a && good (getD xs i d)) ≡ b
+      go true true e f = let k = leb-true (i + 1) v f in scanned xs .before i (omega arith)
+      go true false e f = let h = leb-true i v e in let k = leb-false (i + 1) v f in there (omega arith)
+      go false true e f = let h = leb-false i v e in let k = leb-true (i + 1) v f in absurd (omega arith)
+      go false false e f = refl

@@ -1,2 +1,4 @@
 pub mod Entries
 pub mod Low
+pub mod GoodBits
+pub mod Marks

@@ -12,3 +12,4 @@ pub mod Pass
 pub mod NoNan
 pub mod Leaves
 pub mod Kernels
+pub mod EntryBits

@@ -144,7 +144,7 @@ of-sums =
     }
 
 of-model : OfModel
-of-model = record { entry = λ table i. one _; «is_good» = λ x. one _; «is_good_end» = λ ends x. one _ }
+of-model = record { entry = λ table i. one _; «is_set» = λ mark. one _; «is_good» = λ x. one _; «is_good_end» = λ ends x. one _ }
 
 of-checks : OfChecks
 of-checks =

@@ -7,3 +7,4 @@ pub mod Likelihood
 pub mod Pass
 pub mod NoNan
 pub mod Kernels
+pub mod EntryBits

@@ -32,6 +32,7 @@ use Rattle.probs.specs.declared.sum.Open.{Open}
 use Rattle.model.specs.declared.Shape.{Shape}
 use Rattle.model.specs.Lent.{Tables, Lent, lent}
 use Rattle.model.specs.Good.{good, goodEnd}
+use Rattle.model.specs.inner.Marks.{isSet}
 use Rattle.model.specs.Model.{emissionOf}
 use Rattle.checks.specs.Rooms.{roomsOf}
 use Rattle.checks.specs.Checks.{shapeTests, countTests, roomTests, entryTests, isSymbol, sampleTests}
@@ -114,6 +115,7 @@ pub record OfSums : Type 0 where
 
 pub record OfModel : Type 0 where
   pub entry : (table : List Float) (i : ℕ) → Unique (λ (r : Float). r ≡ at table i)
+  pub «is_set» : (mark : ℕ) → Unique (λ (r : Bool). r ≡ isSet mark)
   pub «is_good» : (x : Float) → Unique (λ (r : Bool). r ≡ good x)
   pub «is_good_end» : (ends : Bool) (x : Float) → Unique (λ (r : Bool). r ≡ goodEnd ends x)
 

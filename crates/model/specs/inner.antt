@@ -1,0 +1,2 @@
+-- What only inner functions ask and promise.
+pub mod Marks
