@@ -4,8 +4,10 @@
 //! Plain Rust is the independent reference, with the same rules, kernels and checks. Its exp is shaped for speed but where
 //! a heading says that it is the loop as RULES 4.1 reads. The library and plain Rust count their checks; bio makes none,
 //! and allocates what it returns. bio's Viterbi leaves an end state out, so that the line with one has no ratio to bio.
+//! Where entries are checked, the library makes all checks of a call, and plain Rust is a loop over the entries alone.
 
 mod contest;
+mod entries;
 mod leaves;
 mod walks;
 
@@ -21,6 +23,8 @@ fn main() {
     }
     print_heading("with an end state");
     walks::viterbi_with_end_state(12, 240);
+    print_heading("entries checked");
+    entries::contest();
     print_heading("plain exp as written");
     for call in [Call::Forward, Call::Backward] {
         walks::contest(walks::AS_WRITTEN, call, 12, 240);

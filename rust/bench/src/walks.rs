@@ -94,7 +94,8 @@ fn case(states: usize, samples: usize) -> Case {
     of_kinds(sizes, [Kind::Normalised; 4], &mut Random::new(1)).without_end_state()
 }
 
-fn on_lent_memory(engine: Engine, call: Call, case: &Case) -> Rival<'_> {
+/// A call on a case, each time on the same lent memory.
+pub fn on_lent_memory(engine: Engine, call: Call, case: &Case) -> Rival<'_> {
     let mut outputs = lend(call, case, &mut Random::new(2));
     Box::new(move || {
         black_box((engine.call)(call, black_box(case), &mut outputs));

@@ -2,12 +2,12 @@
 
 use crate::case::{self, Case, Sizes};
 use crate::damage::damaged;
-use crate::engine::{self, Engine};
+use crate::engine::{self, Engine, REFERENCE};
 use crate::lent::{lend, Call, CALLS};
 use crate::random::Random;
 use crate::tally::Tally;
 use crate::verdict::Verdict;
-use crate::{leaves, likeness, shrink};
+use crate::{entries, leaves, likeness, shrink};
 use oracle::Modes;
 use reference::model::MOST_SAMPLES;
 
@@ -32,6 +32,8 @@ pub struct Amount {
     pub damaged: usize,
     pub near: usize,
     pub leaves: usize,
+    /// Rounds of words as entries, about 9,500 cases each; ten have every size of a table once.
+    pub entries: usize,
 }
 
 /// What there is to compare, and what was found.
@@ -59,6 +61,7 @@ impl Comparison {
         comparison.damaged(amount);
         comparison.near(amount);
         comparison.leaves(amount);
+        comparison.entries(amount);
         println!();
         comparison.tally.print();
         comparison.tally.wrong()
@@ -277,6 +280,31 @@ impl Comparison {
                     self.plain(&format!("{name}: library, reference"), &verdict, String::new);
                 }
             }
+        }
+    }
+
+    /// Words as entries of good models.
+    fn entries(&mut self, amount: &Amount) {
+        for number in 0..amount.entries {
+            let cases = entries::round(number, &mut self.random);
+            cases.for_each(|case| self.entries_of(&case));
+        }
+    }
+
+    /// The reference and the library, each by the rule on words, and the one against the other.
+    fn entries_of(&mut self, case: &Case) {
+        let pattern = self.random.bits();
+        let outputs = |case: &Case| lend(Call::Viterbi, case, &mut Random::new(pattern));
+        let row = "entries by their bits: reference, rule on words";
+        let refusal = self.add(row, case, &|case| entries::by_the_rule(&REFERENCE, case, outputs(case)));
+        self.tally.answered("entries", refusal);
+        if let Some(library) = self.library {
+            let row = "entries by their bits: library, rule on words";
+            self.add(row, case, &|case| entries::by_the_rule(&library, case, outputs(case)));
+            let row = "entries by their bits: library, reference";
+            self.add(row, case, &|case| {
+                likeness::library(&library, Call::Viterbi, case, outputs(case))
+            });
         }
     }
 }

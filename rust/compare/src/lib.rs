@@ -4,6 +4,7 @@ pub mod case;
 pub mod comparison;
 pub mod damage;
 pub mod engine;
+pub mod entries;
 pub mod frozen;
 pub mod grids;
 pub mod leaves;

@@ -19,6 +19,7 @@ const DEFAULT: Amount = Amount {
     damaged: 20_000,
     near: 300,
     leaves: 100_000,
+    entries: 10,
 };
 
 const LONG: Amount = Amount {
@@ -33,6 +34,7 @@ const LONG: Amount = Amount {
     damaged: 200_000,
     near: 2_000,
     leaves: 1_000_000,
+    entries: 100,
 };
 
 fn main() -> ExitCode {

@@ -3,6 +3,7 @@
 use compare::case::{self, Case, Kind, Sizes};
 use compare::damage;
 use compare::engine::REFERENCE;
+use compare::entries;
 use compare::frozen::{write, Frozen, FILL, NAMES};
 use compare::grids;
 use compare::leaves::{argument, near, slice};
@@ -11,7 +12,7 @@ use compare::likeness;
 use compare::random::Random;
 use compare::verdict::Verdict;
 use oracle::Modes;
-use reference::answer::DONE;
+use reference::answer::{DONE, NOT_GOOD};
 use reference::{leaves, Answer, Shape};
 use std::process::ExitCode;
 
@@ -58,6 +59,7 @@ fn main() -> ExitCode {
     list.kernels();
     list.leaves();
     list.grids();
+    list.entries();
     list.altered();
     println!("{} cases", list.cases.len());
     match std::fs::write(&path, write(&list.cases)) {
@@ -219,8 +221,12 @@ impl List {
             lengths[*place] = *length;
         }
         self.freeze(call, &damaged.case, &lengths);
+        self.must_name(damaged.named);
+    }
+
+    /// Holds the last answer to what it must name.
+    fn must_name(&self, (refusal, table, place): damage::Named) {
         let answer = self.cases.last().expect("just pushed").answer;
-        let (refusal, table, place) = damaged.named;
         assert_eq!(answer[..3], [u64::from(refusal), u64::from(table), place as u64]);
     }
 
@@ -268,6 +274,25 @@ impl List {
         }
         for x in grids::ln_arguments() {
             self.cases.push(Frozen::of_leaf(NAMES[5], &[x], &leaves::ln(x), None));
+        }
+    }
+
+    /// Entries by their bits, on Viterbi, and one case in ten on all calls.
+    fn entries(&mut self) {
+        for (number, case) in entries::to_freeze(&mut self.random).iter().enumerate() {
+            let calls = if number % 10 == 0 { &CALLS[..] } else { &CALLS[..1] };
+            calls.iter().for_each(|call| self.entries_call(*call, case));
+        }
+    }
+
+    /// A call on a case that has a bad entry by the rule on words, and names it, or has none, so that bio can be asked.
+    fn entries_call(&mut self, call: Call, case: &Case) {
+        match entries::first_fault(case) {
+            None => self.call(call, case, 1),
+            Some((table, place)) => {
+                self.freeze(call, case, &call.needed(case));
+                self.must_name((NOT_GOOD, table, place));
+            }
         }
     }
 
