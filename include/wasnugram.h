@@ -7,8 +7,8 @@
  * kit builds for no other processor. The archive needs memcpy and memset and nothing else: no heap, no statics, no libc.
  *
  * Floating point. Numbers are IEEE doubles, rounded to nearest, with subnormal numbers kept and exceptions masked, as a process starts.
- * So never link with -ffast-math or -Ofast: that makes the processor take subnormal numbers for zero (DAZ, FTZ) in all code, ours too.
- * An entry of +2^-1074 then passes the check that should refuse it, and no promise holds.
+ * So never link with -ffast-math or -Ofast: that makes the processor take subnormal numbers for zero (DAZ, FTZ) in all code, ours too,
+ * and no promise on an answer holds. (The check of the entries looks at their bits: it refuses +2^-1074 there too.)
  *
  * Threads and interrupts. A call keeps nothing, so it may run beside any other, in a thread or a signal handler, as long as nothing that
  * one of them writes is lent to another. An interrupt handler saves the floating-point registers before it calls.
