@@ -1,7 +1,7 @@
 /* An entry of +2^-1074, which is above 0 and not good, as the processor keeps subnormal numbers or takes them for zero (DAZ, FTZ). The check
  * looks at the entry's bits, so it is refused either way: alone in a small table, as in the gate post P6 of RULES 9, and in a table that is
- * long enough to be looked at in blocks. Compared as a float, it would pass for zero where subnormal numbers are. The program says which of
- * the two it is, what a comparison of floats would say, and what became of the entry.
+ * long enough to be looked at in blocks. Compared as a float, it would pass for zero where subnormal numbers are. Its negative is good, and
+ * is accepted either way. The program says which of the two it is, what a comparison of floats would say, and what became of the entries.
  *
  *   environment [flush]       as the process starts; or with subnormal numbers taken for zero
  */
@@ -33,5 +33,7 @@ int main(int argc, char **argv) {
     long_transition[PLACE] = 0x1p-1074;
     wasnugram_model large = { { STATES, 1, 0 }, long_transition, zeros, zeros, zeros };
     print_answer("a long table", wasnugram_check_of(&large));
+    long_transition[PLACE] = -0x1p-1074;
+    print_answer("a long table with -2^-1074", wasnugram_check_of(&large));
     return 0;
 }

@@ -23,7 +23,7 @@ ghost use Rattle.checks.specs.Rooms.{room, roomsOf};
 ghost use Rattle.checks.specs.Checks.{shapeTests, countTests, unfitTest, roomTests, entryTests, isSymbol, sampleTests};
 ghost use Rattle.checks.specs.inner.Parts.{Numbered, sizesOf, restTests};
 
-// How many entries are looked at as one.
+// How many entries are looked at as one: enough that the compiler keeps a loop over them and does not write each of them out.
 const BLOCK: usize = 128;
 
 // Whether a number of states or symbols is 0 or above the most that there may be.

@@ -17,5 +17,6 @@ goodEnd ends x = cond ends (good x) (isPlusZero x)
 unfoldable pub goodBits : ℕ → Bool
 goodBits w = eqb w 0 || (leb 0x8000000000000000 w && leb w 0xfff0000000000000)
 
+-- of an entry of the end table: without an end state no bit may be set
 unfoldable pub goodEndBits : Bool → ℕ → Bool
 goodEndBits ends w = cond ends (goodBits w) (eqb w 0)

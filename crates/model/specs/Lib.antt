@@ -1,5 +1,5 @@
 pub mod Lent
 pub mod Good
-pub mod inner
 pub mod Model
 pub mod Accepted
+pub mod inner

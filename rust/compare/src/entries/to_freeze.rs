@@ -22,7 +22,7 @@ const LAST_END: [u64; 7] = [
     LEAST,
 ];
 
-/// Two bad entries of twelve states and two symbols by table and place, in one block, in two blocks and in two tables. The
+/// Two bad entries of sixteen states and two symbols by table and place, in one block, in two blocks and in two tables. The
 /// first is the one to be named.
 const TWO_BAD: [[(usize, usize); 2]; 9] = [
     [(0, 5), (0, 60)],
@@ -30,10 +30,10 @@ const TWO_BAD: [[(usize, usize); 2]; 9] = [
     [(0, 63), (0, 64)],
     [(0, 127), (0, 128)],
     [(0, 128), (0, 129)],
-    [(0, 10), (0, 143)],
-    [(0, 143), (1, 0)],
-    [(1, 23), (2, 0)],
-    [(2, 11), (3, 0)],
+    [(0, 10), (0, 255)],
+    [(0, 255), (1, 0)],
+    [(1, 31), (2, 0)],
+    [(2, 15), (3, 0)],
 ];
 
 /// Entries of nine states and sixteen symbols in the other tables.
@@ -85,7 +85,7 @@ fn last_end(word: u64, random: &mut Random) -> [Case; 2] {
 fn two_bad([first, second]: &[(usize, usize); 2], random: &mut Random) -> Case {
     let put = |(table, place), word| Put { table, place, word };
     let puts = [put(*first, SIGNALLING), put(*second, LEAST)];
-    with(&model(12, 2, random), &puts)
+    with(&model(16, 2, random), &puts)
 }
 
 fn elsewhere((table, place, word): (usize, usize, u64), random: &mut Random) -> Case {
