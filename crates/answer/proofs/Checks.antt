@@ -12,14 +12,21 @@ use Rattle.answer.specs.declared.Answer.{Answer}
 use Rattle.answer.specs.Answer.{numberOf, isDone, done}
 use Rattle.answer.specs.Checks.{Tests, firstOf}
 
+-- every test of the list gives an answer whose number passes the test
+abbrev pub Gives : (ℕ → Bool) → Tests → Type 0
+Gives test [] = Unit
+Gives test (t ∷ ts) = T (test (numberOf (t .1 .refusal))) × Gives test ts
+
+pub give-both : (test : ℕ → Bool) (a b : Tests) → Gives test a → Gives test b → Gives test (a ++ b)
+give-both test [] b r q = q
+give-both test (t ∷ a) b r q = (r .0, give-both test a b (r .1) q)
+
 -- every test of the list has a refusal to give
 abbrev pub Refuses : Tests → Type 0
-Refuses [] = Unit
-Refuses (t ∷ ts) = T (ltb 0 (numberOf (t .1 .refusal))) × Refuses ts
+Refuses = Gives (ltb 0)
 
 pub refuse-both : (a b : Tests) → Refuses a → Refuses b → Refuses (a ++ b)
-refuse-both [] b r q = q
-refuse-both (t ∷ a) b r q = (r .0, refuse-both a b (r .1) q)
+refuse-both = give-both (ltb 0)
 
 -- no test of the list finds fault
 unfoldable pub Clear : Tests → Type 0
@@ -40,6 +47,17 @@ clear [] r h = tt
 clear (t ∷ ts) r h =
     let p = pick (t .0) (t .1) (firstOf ts) (r .0) h in
     (p .0, clear ts (r .1) (p .1))
+
+-- a check that is not done gives one of its tests' numbers
+pub given : (test : ℕ → Bool) (ts : Tests) → Gives test ts → isDone (firstOf ts) ≡ false → T (test (numberOf (firstOf ts .refusal)))
+unfolding firstOf
+given test [] g h = absurd (let z : _≡_ {A = ℕ} 0 1 = cc in omega arith)
+given test (t ∷ ts) g h = go (t .0) (given test ts (g .1)) h
+  where
+    go : (b : Bool) → (isDone (firstOf ts) ≡ false → T (test (numberOf (firstOf ts .refusal))))
+        → isDone (cond b (t .1) (firstOf ts)) ≡ false → T (test (numberOf (cond b (t .1) (firstOf ts) .refusal)))
+    go true rest k = g .0
+    go false rest k = rest k
 
 -- and one that found no fault is done
 pub no-fault : (ts : Tests) → Clear ts → isDone (firstOf ts) ≡ true
@@ -81,6 +99,12 @@ pub goes-on : (a b : Tests) (r : Answer) → r ≡ firstOf b → Clear a → r �
 unfolding firstOf Clear
 goes-on [] b r e c = e
 goes-on (t ∷ a) b r e c = rw (c .0) (goes-on a b r e (c .1))
+
+-- tests that find no fault may be left out
+pub left-out : (a b c : Tests) → Clear b → firstOf (a ++ (b ++ c)) ≡ firstOf (a ++ c)
+unfolding firstOf
+left-out [] b c h = sym (goes-on b c (firstOf c) refl h)
+left-out (t ∷ a) b c h = ap (cond (t .0) (t .1)) (left-out a b c h)
 
 stop : (b : Bool) (a rest rest' : Answer) → (b ≡ false → rest' ≡ rest) → cond b a rest' ≡ cond b a rest
 stop true a rest rest' h = refl

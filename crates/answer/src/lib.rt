@@ -31,6 +31,10 @@ pub enum Refusal {
     NegativeDifference,
     // 11: a value overshoots 0 by more than epsilon.
     Overshoot,
+    // 13: a model file has another layout than its shape gives.
+    BadLayout,
+    // 14: a sum of a model file is not that of its body.
+    BadSum,
 }
 
 // What every public call gives back, by value.
@@ -58,6 +62,8 @@ pub fn number(refusal: Refusal) -> u8
         Refusal::ZeroMass => 9,
         Refusal::NegativeDifference => 10,
         Refusal::Overshoot => 11,
+        Refusal::BadLayout => 13,
+        Refusal::BadSum => 14,
     }
 }
 

@@ -106,10 +106,7 @@ trained-accepted l a some mass =
     let n = Lent.T l in
     let low = accepted-low l a in
     record {
-      someState = a .tables .someState;
-      fewStates = a .tables .fewStates;
-      someSymbol = a .tables .someSymbol;
-      fewSymbols = a .tables .fewSymbols;
+      inRange = a .tables .inRange;
       transitionLength = length-flat (S l) _ (S l) (λ (t : ℕ). length-tab (S l) _);
       emissionLength = length-flat (S l) _ (M l) (λ (t : ℕ). length-tab (M l) _);
       initialLength = length-tab (S l) _;

@@ -81,7 +81,7 @@ module _ (l : Lent) (o : Outputs) (ok : isDone (checked l o) ≡ true) where
   passed = let-through true (rooms l o) l ok
 
   pub few-places : T l * S l ≤ 4096 * 64
-  few-places = mul-le-mul (passed .accepted .samples .fewSamples) (passed .accepted .tables .fewStates)
+  few-places = mul-le-mul (passed .accepted .samples .fewSamples) (passed .accepted .tables .inRange .fewStates)
 
   alpha-room : T l * S l ≤ length (o .alpha)
   alpha-room = passed .roomy .1 .1 .1 .1 .0
@@ -142,8 +142,8 @@ module _ {l : Lent} {o : Outputs} {al be : List Float} {v : Float} (st : Stood l
   readable =
       let a = through .accepted in
       record {
-        standing = record { few = a .tables .fewStates; some = some; alphaRoom = alpha-kept; betaRoom = beta-kept };
-        known = record { few = a .tables .fewSymbols; samplesLength = refl; known = a .samples .known };
+        standing = record { few = a .tables .inRange .fewStates; some = some; alphaRoom = alpha-kept; betaRoom = beta-kept };
+        known = record { few = a .tables .inRange .fewSymbols; samplesLength = refl; known = a .samples .known };
         transitionLength = a .tables .transitionLength;
         emissionLength = a .tables .emissionLength;
       }

@@ -1,5 +1,5 @@
 -- The checks are done exactly where the call is let through: what each slot of them found, and the whole.
-use Prim.Native.Nat.{ℕ, suc, _*_, _≤_, _<_}
+use Prim.Native.Nat.{ℕ, suc, _<_}
 use mathlib.Core.Path.{_≡_}
 use mathlib.Core.Bool.{Bool, true, false}
 use mathlib.Core.List.{List, [], _∷_, _++_}
@@ -8,31 +8,28 @@ use lib.ListN.{length}
 use borrow.Author.Tests.{ltb-false, le-ltb, eqb-true, not-false}
 use Rattle.floats.specs.Float.{minusInfinity}
 use Rattle.answer.specs.Answer.{isDone}
-use Rattle.answer.specs.Checks.{Tests, firstOf}
+use Rattle.answer.specs.Checks.{Tests}
 use Rattle.answer.proofs.Checks.{Refuses, refuse-both, Clear, clear, no-fault, clear-both, clear-left, clear-right}
 use Rattle.model.specs.declared.Shape.{Shape}
 use Rattle.model.specs.Lent as Memory
-use Rattle.model.specs.Lent.{Tables, Lent, S, M}
+use Rattle.model.specs.Lent.{Tables, Lent, M}
 use Rattle.model.specs.Good.{good, goodEnd}
-use Rattle.model.specs.Model.{sampleAt}
-use Rattle.model.specs.Accepted.{AcceptedTables, AcceptedSamples, Accepted}
+use Rattle.model.specs.Accepted.{AcceptedTables, AcceptedSamples}
 use Rattle.checks.specs.Rooms.{Room, Roomy}
 use Rattle.checks.specs.Checks.{shapeTests, countTests, roomTests, tableRooms, entryTests, isSymbol, sampleTests, testsOf, passage, check}
 use Rattle.checks.specs.LetThrough.{LetThrough}
-use Rattle.checks.proofs.Tests.{in-range, ranged, needs-none, needs-one, agree, every, no-bad}
+use Rattle.checks.proofs.Tests.{needs-none, needs-one, agree, every, no-bad}
+use Rattle.checks.proofs.Shapes.{shape-clear, shape-in-range}
 use Rattle.checks.proofs.Rooms.{rooms-refuse}
 use Rattle.checks.proofs.Slots.{shape-refuses, count-refuses, entries-refuse, samples-refuse}
 
 -- ---- the tables: 1, 2, 5 and 7
 module _ (m : Tables) where
-  accepted-tables : Clear (shapeTests (m .shape)) → Clear (roomTests true 0 (tableRooms m)) → Clear (entryTests m) → AcceptedTables m
-  unfolding shapeTests roomTests entryTests Clear
+  pub accepted-tables : Clear (shapeTests (m .shape)) → Clear (roomTests true 0 (tableRooms m)) → Clear (entryTests m) → AcceptedTables m
+  unfolding roomTests entryTests Clear
   accepted-tables f g h =
       record {
-        someState = in-range (m .shape .states) 64 (f .0) .0;
-        fewStates = in-range (m .shape .states) 64 (f .0) .1;
-        someSymbol = in-range (m .shape .symbols) 256 (f .1 .0) .0;
-        fewSymbols = in-range (m .shape .symbols) 256 (f .1 .0) .1;
+        inRange = shape-in-range (m .shape) f;
         transitionLength = eqb-true _ _ (not-false _ (g .0));
         emissionLength = eqb-true _ _ (not-false _ (g .1 .0));
         initialLength = eqb-true _ _ (not-false _ (g .1 .1 .0));
@@ -44,17 +41,12 @@ module _ (m : Tables) where
       }
 
   module _ (a : AcceptedTables m) where
-    clear-shape : Clear (shapeTests (m .shape))
-    unfolding shapeTests Clear
-    clear-shape =
-        (ranged (m .shape .states) 64 (a .someState) (a .fewStates), (ranged (m .shape .symbols) 256 (a .someSymbol) (a .fewSymbols), tt))
-
-    clear-tables : Clear (roomTests true 0 (tableRooms m))
+    pub clear-tables : Clear (roomTests true 0 (tableRooms m))
     unfolding roomTests Clear
     clear-tables =
         (agree _ _ (a .transitionLength), (agree _ _ (a .emissionLength), (agree _ _ (a .initialLength), (agree _ _ (a .endLength), tt))))
 
-    clear-entries : Clear (entryTests m)
+    pub clear-entries : Clear (entryTests m)
     unfolding entryTests Clear
     clear-entries =
         let transition = no-bad good (m .transition) minusInfinity (a .transitionGood) in
@@ -87,12 +79,12 @@ module _ (needsSample : Bool) (shape : Shape) (samples : List ℕ) where
     clear-samples = (no-bad (isSymbol (shape .symbols)) samples 0 (λ (t : ℕ) h. lt→ltb _ _ (a .known t h)), tt)
 
 -- ---- the outputs: 6
-is-roomy : (k : ℕ) (os : List Room) → Clear (roomTests false k os) → Roomy os
+pub is-roomy : (k : ℕ) (os : List Room) → Clear (roomTests false k os) → Roomy os
 unfolding roomTests Clear
 is-roomy k [] f = tt
 is-roomy k (o ∷ os) f = (ltb-false _ _ (f .0), is-roomy (suc k) os (f .1))
 
-clear-outputs : (k : ℕ) (os : List Room) → Roomy os → Clear (roomTests false k os)
+pub clear-outputs : (k : ℕ) (os : List Room) → Roomy os → Clear (roomTests false k os)
 unfolding roomTests Clear
 clear-outputs k [] r = tt
 clear-outputs k (o ∷ os) r = (le-ltb _ _ (r .0), clear-outputs (suc k) os (r .1))
@@ -150,7 +142,7 @@ module _ (needsSample : Bool) (outputs : List Room) (l : Lent) where
       let a = p .accepted .tables in
       let b = p .accepted .samples in
       no-fault (shape ++ (count ++ (tables ++ (rooms ++ (entries ++ samples)))))
-      (clear-both shape _ (clear-shape (l .tables) a)
+      (clear-both shape _ (shape-clear (l .tables .shape) (a .inRange))
       (clear-both count _ (clear-count needsSample (l .tables .shape) (l .samples) b (p .sampled))
       (clear-both tables _ (clear-tables (l .tables) a)
       (clear-both rooms _ (clear-outputs 5 outputs (p .roomy))

@@ -1,7 +1,9 @@
 pub mod Tests
+pub mod Shapes
 pub mod Rooms
 pub mod Slots
 pub mod Parts
 pub mod Done
 pub mod FirstFault
 pub mod Tells
+pub mod Unsampled

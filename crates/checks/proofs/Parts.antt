@@ -1,17 +1,17 @@
 -- The checks of a call on one passage in their two parts: what the code makes of them, with the outputs' needed lengths between.
-use Prim.Native.Nat.{ℕ, _*_, _≤_}
-use mathlib.Core.Path.{_≡_, refl, sym, ap, _∙_}
+use Prim.Native.Nat.{_*_, _≤_}
+use mathlib.Core.Path.{_≡_, ap, _∙_}
 use mathlib.Core.Bool.{Bool, true, false, not}
-use mathlib.Core.List.{List, [], _∷_, _++_, append-assoc}
+use mathlib.Core.List.{List, _++_, append-assoc}
 use native.Mathlib.Nat.{mul-le-mul}
 use borrow.Author.Tests.{ltb-false}
 use Rattle.answer.specs.Answer.{isDone}
-use Rattle.answer.specs.Checks.{Tests, firstOf}
+use Rattle.answer.specs.Checks.{firstOf}
 use Rattle.answer.specs.declared.Answer.{Answer}
-use Rattle.answer.proofs.Checks.{Refuses, refuse-both, Clear, clear-left, clear-right, goes-on, refused-by, passed-by}
-use Rattle.model.specs.Lent.{Lent, S, M, T}
+use Rattle.answer.proofs.Checks.{Refuses, refuse-both, Clear, goes-on, refused-by, passed-by}
+use Rattle.model.specs.Lent.{Lent, S, T}
 use Rattle.checks.specs.Rooms.{Room}
-use Rattle.checks.specs.Checks.{shapeTests, countTests, roomTests, tableRooms, entryTests, sampleTests, testsOf, passage, check}
+use Rattle.checks.specs.Checks.{shapeTests, countTests, roomTests, tableRooms, sampleTests, testsOf, passage, check}
 use Rattle.checks.specs.inner.Parts.{sizesOf, sizeTests, restTests}
 use Rattle.checks.proofs.Tests.{in-range}
 use Rattle.checks.proofs.Rooms.{rooms-refuse}

@@ -22,9 +22,9 @@ use Rattle.model.specs.Lent as Memory
 use Rattle.model.specs.Lent.{Tables, Lent, M}
 use Rattle.model.specs.Good.{good, goodEnd}
 use Rattle.checks.specs.Rooms.{Room}
-use Rattle.checks.specs.Checks.{Slots, shapeTests, countTests, roomTests, tableRooms, entryTests, isSymbol, sampleTests, testsOf, passage}
+use Rattle.checks.specs.Checks.{Slots, shapeTests, countTests, roomTests, tableRooms, entryTests, isSymbol, sampleTests, testsOf, passage, unsampled}
 use Rattle.checks.specs.Faults.{fault, OutOfRange, Bad, BadEnd, badEntry, FaultSlots, faultsOf, passageFaults}
-use Rattle.checks.specs.Faults.{shapeFaults, countFaults, roomFaults, badEntries, unknownSymbols}
+use Rattle.checks.specs.Faults.{shapeFaults, countFaults, roomFaults, badEntries, unknownSymbols, unsampledFaults}
 use Rattle.checks.proofs.Tests.{is-true, in-range, needs-one}
 use Rattle.checks.proofs.FirstFault.{Tells, Tell, tell-both}
 
@@ -203,3 +203,6 @@ passage-tells needsSample outputs l =
       samples = samples-tell (M l) (l .samples);
       more = tt;
     }
+
+pub unsampled-tells : (outputs : List Room) → SlotsTell (unsampled outputs) (unsampledFaults outputs)
+unsampled-tells outputs = record { before = tt; counts = tt; inputs = tt; outputs = rooms-tell false 5 outputs; samples = tt; more = tt }

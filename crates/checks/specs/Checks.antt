@@ -1,6 +1,6 @@
 -- The checks of a call on a model, as one list of tests in order (RULES 3.3). A call fills the slots that it needs and leaves the others empty.
 use Prim.Native.Nat.{ℕ, suc, _*_}
-use mathlib.Core.Bool.{Bool, true, false, cond, not, _&&_, _||_}
+use mathlib.Core.Bool.{Bool, true, false, not, _&&_, _||_}
 use mathlib.Core.List.{List, [], _∷_, _++_}
 use lib.Dec.{eqb, ltb}
 use lib.ListN.{length}
@@ -102,3 +102,10 @@ passage needsSample outputs l =
 
 abbrev pub check : Bool → List Room → Lent → Answer
 check needsSample outputs l = firstOf (testsOf (l .tables) (passage needsSample outputs l))
+
+-- a call without samples, whose outputs are numbered from 5
+abbrev pub unsampled : List Room → Slots
+unsampled outputs = record { before = []; counts = []; inputs = []; outputs = roomTests false 5 outputs; samples = []; more = [] }
+
+abbrev pub checkTables : List Room → Tables → Answer
+checkTables outputs m = firstOf (testsOf m (unsampled outputs))

@@ -108,6 +108,10 @@ passageFaults needsSample outputs l =
 abbrev pub checkFaults : Bool → List Room → Lent → List Fault
 checkFaults needsSample outputs l = faultsOf (l .tables) (passageFaults needsSample outputs l)
 
+-- 1, 2 and 5 to 7, of a call without samples
+abbrev pub unsampledFaults : List Room → FaultSlots
+unsampledFaults outputs = record { before = []; counts = []; inputs = []; outputs = roomFaults false 5 outputs; samples = []; more = [] }
+
 -- p is the least place of a fault
 abbrev pub Least : Fault → ℕ → Type 0
 Least f p = f .At p × ((q : ℕ) → f .At q → p ≤ q)

@@ -1,4 +1,6 @@
+pub mod Example
 pub mod Kernels
 pub mod OneSample
 pub mod NoMass
+pub mod Files
 pub mod Table

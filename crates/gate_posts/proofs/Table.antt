@@ -17,21 +17,19 @@ use Rattle.checks.specs.Checks.{shapeTests, countTests, roomTests, entryTests, 
 use Rattle.best_path.specs.Best.{bestOf, ranksAtLeast, predecessor, greatest}
 use Rattle.best_path.specs.Walk.{cell, ended, pathTo, value, from, lastState, bestPath, bestValue}
 use Rattle.gate_posts.specs.Models.{minus, least}
-use Rattle.gate_posts.specs.Table.{Example, Holds, AllHold, answer, path, gatePosts, GatePostsHold}
+use Rattle.gate_posts.specs.Table.{AllHold, gatePosts, GatePostsHold}
 use Rattle.gate_posts.proofs.Kernels.{ln-two, ln-half}
 use Rattle.gate_posts.proofs.OneSample.{forward-value, backward-value}
 use Rattle.gate_posts.proofs.NoMass.{no-mass}
-
--- an example whose answer is given, and its path computed
-abbrev holds : (e : Example) → answer (e .call) ≡ e .answers → path (e .call) ≡ e .leaves → Holds e
-holds e a p = record { answerIs = a; pathIs = p }
+use Rattle.gate_posts.proofs.Example.{holds}
+use Rattle.gate_posts.proofs.Files.{files}
 
 pub gate-posts : GatePostsHold
 unfolding gatePosts minus least over testsOf shapeTests countTests roomTests entryTests sampleTests firstOf firstBad good goodEnd
     isPlusZero bestOf ranksAtLeast predecessor greatest cell ended pathTo value from lastState bestPath bestValue unlessNan lnSum
     grown peak raised isInfinite lnSub relativeEq ofBits ofInt toBits round size add sum le lt eq isNan neg
 gate-posts =
-    let sums : AllHold (drop 21 gatePosts) = (holds _ refl refl, (holds _ refl refl, tt)) in
+    let sums : AllHold (drop 21 gatePosts) = (holds _ refl refl, (holds _ refl refl, files)) in
     let logs : AllHold (drop 18 gatePosts) = (holds _ (ap done ln-one) refl, (holds _ (ap done ln-two) refl, (holds _ (ap done ln-half) refl, sums))) in
     let exps : AllHold (drop 16 gatePosts) = (holds _ (ap done (exp-zero false)) refl, (holds _ (ap done exp-minus-infinity) refl, logs)) in
     let pass : AllHold (drop 15 gatePosts) = (holds _ no-mass refl, exps) in

@@ -1,30 +1,36 @@
--- The seventeen gate-post examples of RULES 9 (P1 to P6, E1 to E3, Z1 to Z4, K1, K2, S1, S2) as a single table, `gatePosts`, with a single
--- statement, `GatePostsHold`: the definitions that the public calls promise give every one of them.
-use Prim.Native.Nat.{ℕ, _*_}
+-- The 22 gate-post examples of RULES 9 (P1 to P6, E1 to E3, Z1 to Z4, K1, K2, S1, S2, F1 to F5) as a single table, `gatePosts`, with a
+-- single statement, `GatePostsHold`: the definitions that the public calls promise give every one of them.
+use Prim.Native.Nat.{ℕ, suc, _*_}
 use mathlib.Core.Path.{_≡_}
 use mathlib.Core.Bool.{true, false, cond}
-use mathlib.Core.List.{List, [], _∷_}
+use mathlib.Core.List.{List, [], _∷_, _++_}
 use lib.IntN.{pos, negsuc}
-use lib.ListN.{replicate}
+use lib.ListN.{replicate, take}
 use lib.Ieee.{Float, nan, inf, fin, neg}
 use Rattle.floats.specs.Float.{nought, one, minusInfinity}
 use Rattle.lists.specs.Lists.{after}
 use Rattle.answer.specs.Answer.{done, refuse, isDone, answered}
 use Rattle.answer.specs.declared.Answer.{Answer}
-use Rattle.answer.specs.declared.Refusal.the-variants.{NotGood, UnknownSymbol, ZeroMass}
+use Rattle.answer.specs.declared.Refusal.the-variants.{NotGood, UnknownSymbol, ZeroMass, BadLayout, BadSum}
 use Rattle.kernels.specs.Calls.{expAnswer, lnAnswer}
 use Rattle.kernels.specs.Ln.{ln2}
 use Rattle.probs.specs.Calls.{lnSumExpAnswer, lnSubExpAnswer}
-use Rattle.model.specs.Lent.{Lent, S, M, T}
+use Rattle.model.specs.Lent.{Tables, Lent, tablesOf, S, M, T}
 use Rattle.model.specs.Model.{modelOf}
 use Rattle.best_path.specs.Walk.{bestPath, bestValue}
 use Rattle.viterbi.specs.Call as Viterbi
 use Rattle.likelihood.specs.Call.{forwardAnswer, backwardAnswer}
 use Rattle.baum_welch.specs.Call as BaumWelch
 use Rattle.baum_welch.specs.Call.{massAnswer, walksOf}
+use Rattle.model_file.specs.Layout.{fileLength, modelFile}
+use Rattle.model_file.specs.Reading.{shapeOf, modelIn}
+use Rattle.file_laws.specs.Flip.{flipped}
+use Rattle.model_file.specs.Call as ModelFile
+use Rattle.model_file.specs.Call.{noShape, readCheck, writeCheck}
 use Rattle.gate_posts.specs.Models.{minus, least, modelP, changedP, endingP, modelZ, changedZ, minusZeros}
+use Rattle.gate_posts.specs.Files.{fileP, fileE}
 
--- a call, with outputs of exactly the room that it needs
+-- a call; outputs have exactly the room that they need, but that of a file has a byte more
 pub data Call : Type 0 where
   viterbi : Lent → Call
   forward : Lent → Call
@@ -34,6 +40,8 @@ pub data Call : Type 0 where
   ln : Float → Call
   lnSumExp : List Float → Call
   lnSubExp : Float → Float → Call
+  readModel : List ℕ → Call
+  writeModel : Tables → Call
 
 -- a path's bytes before a call: no state is 255, so what is not written shows
 abbrev pub unwritten : Lent → List ℕ
@@ -47,6 +55,17 @@ trainingOutputs l =
     BaumWelch.outputs (replicate (S l * S l) nought) (replicate (S l * M l) nought) (replicate (S l) nought) (replicate (S l) nought)
     (replicate (T l * S l) nought) (replicate (T l * S l) nought)
 
+-- the tables that a reader is lent, with room for 2 states and 2 symbols: no entry that is read is a NaN, so what is not written shows
+abbrev pub unread : Tables
+unread = tablesOf noShape (replicate 4 nan) (replicate 4 nan) (replicate 2 nan) (replicate 2 nan)
+
+abbrev pub readingOutputs : ModelFile.Outputs
+readingOutputs = ModelFile.outputs (unread .transition) (unread .emission) (unread .initial) (unread .end)
+
+-- a file's bytes before a call: no byte of the examples' files is 0xa5
+abbrev pub fileOutput : Tables → List ℕ
+fileOutput m = replicate (suc (fileLength (m .shape))) 0xa5
+
 -- what the call promises to answer
 abbrev pub answer : Call → Answer
 answer (viterbi l) = answered (Viterbi.checked l (viterbiOutputs l)) (bestValue (modelOf l) (T l))
@@ -59,32 +78,62 @@ answer (exp d) = expAnswer d
 answer (ln x) = lnAnswer x
 answer (lnSumExp xs) = lnSumExpAnswer xs
 answer (lnSubExp x y) = lnSubExpAnswer x y
+answer (readModel file) = answered (readCheck file readingOutputs) nought
+answer (writeModel m) = answered (writeCheck m (fileOutput m)) nought
 
--- and the path that it promises to leave, where it is lent one
-abbrev pub path : Call → List ℕ
-path (viterbi l) = after (isDone (Viterbi.checked l (viterbiOutputs l))) (bestPath (modelOf l) (T l)) (unwritten l)
-path (forward l) = []
-path (backward l) = []
-path (baumWelch l) = []
-path (exp d) = []
-path (ln x) = []
-path (lnSumExp xs) = []
-path (lnSubExp x y) = []
+-- what the examples look at after a call: nothing, the bytes of a path or a file, or a model with its shape
+pub data Left : Type 0 where
+  nothing : Left
+  bytes : List ℕ → Left
+  model : Tables → Left
 
--- a call, what it is to answer, and the path that it is to leave
+-- the model that the reader promises to leave, with the shape that it gives
+abbrev pub modelLeft : List ℕ → Tables
+modelLeft file =
+    let isRead = isDone (readCheck file readingOutputs) in
+    tablesOf
+    (cond isRead (shapeOf file) noShape)
+    (after isRead (modelIn file .transition) (unread .transition))
+    (after isRead (modelIn file .emission) (unread .emission))
+    (after isRead (modelIn file .initial) (unread .initial))
+    (after isRead (modelIn file .end) (unread .end))
+
+-- and what each call promises to leave
+abbrev pub left : Call → Left
+left (viterbi l) = bytes (after (isDone (Viterbi.checked l (viterbiOutputs l))) (bestPath (modelOf l) (T l)) (unwritten l))
+left (forward l) = nothing
+left (backward l) = nothing
+left (baumWelch l) = nothing
+left (exp d) = nothing
+left (ln x) = nothing
+left (lnSumExp xs) = nothing
+left (lnSubExp x y) = nothing
+left (readModel file) = model (modelLeft file)
+left (writeModel m) = bytes (after (isDone (writeCheck m (fileOutput m))) (modelFile m) (fileOutput m))
+
+-- a call, what it is to answer, and what it is to leave
 pub record Example : Type 0 where
   pub call : Call
   pub answers : Answer
-  pub leaves : List ℕ
+  pub leaves : Left
 
 abbrev pub decodes : Lent → Float → List ℕ → Example
-decodes l v p = record { call = viterbi l; answers = done v; leaves = p }
+decodes l v p = record { call = viterbi l; answers = done v; leaves = bytes p }
 
 abbrev pub refuses : Lent → Answer → Example
-refuses l a = record { call = viterbi l; answers = a; leaves = unwritten l }
+refuses l a = record { call = viterbi l; answers = a; leaves = bytes (unwritten l) }
 
 abbrev pub gives : Call → Answer → Example
-gives c a = record { call = c; answers = a; leaves = [] }
+gives c a = record { call = c; answers = a; leaves = nothing }
+
+abbrev pub writes : Tables → List ℕ → Example
+writes m file = record { call = writeModel m; answers = done nought; leaves = bytes (file ++ (0xa5 ∷ [])) }
+
+abbrev pub reads : List ℕ → Tables → Example
+reads file m = record { call = readModel file; answers = done nought; leaves = model m }
+
+abbrev pub rejects : List ℕ → Answer → Example
+rejects file a = record { call = readModel file; answers = a; leaves = model unread }
 
 abbrev pub two : Float
 two = fin false 1 (pos 1)
@@ -131,12 +180,21 @@ gatePosts =
     -- S1: plus infinity is the greatest. S2: equal numbers leave nothing
     ∷ gives (lnSumExp (plusInfinity ∷ minus 1 ∷ [])) (done plusInfinity)
     ∷ gives (lnSubExp (minus 1) (minus 1)) (done minusInfinity)
+    -- F1 writes the file of model P, F2 reads it
+    ∷ writes (modelP [] .tables) fileP
+    ∷ reads fileP (modelP [] .tables)
+    -- F3: one bit is flipped, the lowest of the last byte of the emission body. F4: the last byte is missing
+    ∷ rejects (flipped 119 0 fileP) (refuse BadSum 1 0)
+    ∷ rejects (take 135 fileP) (refuse BadLayout 0 135)
+    -- F5: with an end state the file has the end table too
+    ∷ writes (endingP (nought ∷ minus 4 ∷ []) [] .tables) fileE
+    ∷ reads fileE (endingP (nought ∷ minus 4 ∷ []) [] .tables)
     ∷ []
 
--- the definitions give an example: its answer, to the bit, and its path
+-- the definitions give an example: its answer, to the bit, and what it leaves
 pub record Holds (e : Example) : Type 0 where
   pub answerIs : answer (e .call) ≡ e .answers
-  pub pathIs : path (e .call) ≡ e .leaves
+  pub leftIs : left (e .call) ≡ e .leaves
 
 abbrev pub AllHold : List Example → Type 0
 AllHold [] = Unit

@@ -26,7 +26,7 @@ module _ (needsSample : Bool) (l : Lent) (o : List Float) (ok : isDone (checked 
       let h = let-through needsSample _ l ok in
       let a = h .accepted .tables in (
         record {
-          fewStates = a .fewStates;
+          fewStates = a .inRange .fewStates;
           transitionLength = a .transitionLength;
           initialLength = a .initialLength;
           endLength = a .endLength;

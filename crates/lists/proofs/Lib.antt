@@ -6,3 +6,4 @@ pub mod Laid
 pub mod Rows
 pub mod Every
 pub mod Whole
+pub mod Parts

@@ -1,6 +1,6 @@
 -- Laws of `tab` and `over`: what a list is once its front, or a part of it, is overwritten, one store a turn.
 use Prim.Native.Nat.{ℕ, zero, suc, _+_, _-_, _≤_, _<_}
-use mathlib.Core.Path.{_≡_, refl, sym, ap, _∙_, subst}
+use mathlib.Core.Path.{_≡_, refl, sym, ap, ap₂, _∙_, subst}
 use mathlib.Core.List.{List, [], _∷_, _++_, append-assoc}
 use mathlib.Core.Logic.{⊎-elim}
 use native.Mathlib.Numerals.{add-one}
@@ -104,14 +104,24 @@ module _ {A : Type 0} where
   length-part a n l h = length-take-le n (drop a l) (simp length-drop (omega arith))
 
   -- q is laid right after p
-  pub over-over : (i : ℕ) (p q l : List A) → i ≡ length p → i + length q ≤ length l → over i q (over 0 p l) ≡ over 0 (p ++ q) l
+  pub over-next : (i j : ℕ) (p q l cur : List A) → cur ≡ over i p l → j ≡ i + length p → j + length q ≤ length l
+      → over j q cur ≡ over i (p ++ q) l
   unfolding over
-  over-over i p q l e h =
-      let lo : 0 + length (p ++ q) ≡ i + length q = rw (length-append, zero-add, ← e) in
-      let t : take i (p ++ drop (length p) l) ≡ p = take-at p _ i (sym e) in
-      let d : drop (i + length q) (p ++ drop (length p) l) ≡ drop (i + length q) l
-      = rw e (drop-append-add p (drop (length p) l) (length q) ∙ drop-drop (length q) (length p) l) in
-      rw (lo, zero-add, t, d) (sym (append-assoc p q _))
+  over-next i j p q l cur e h room =
+      let rest = drop (i + length p) l in
+      let front : length (take i l ++ p) ≡ j = length-append (take i l) p ∙ (let t = length-take-le i l (omega arith) in omega arith) in
+      let a : take i l ++ (p ++ rest) ≡ (take i l ++ p) ++ rest = sym (append-assoc (take i l) p rest) in
+      let t : take j ((take i l ++ p) ++ rest) ≡ take i l ++ p = take-at (take i l ++ p) _ j front in
+      let n : length (take i l ++ p) + length q ≡ j + length q = ap (λ (k : ℕ). k + length q) front in
+      let m : i + length p + length q ≡ i + length (p ++ q) = rw length-append (omega arith) in
+      let d : drop (j + length q) ((take i l ++ p) ++ rest) ≡ drop (i + length (p ++ q)) l
+      = sym (ap (λ (k : ℕ). drop k ((take i l ++ p) ++ rest)) n) ∙ drop-append-add (take i l ++ p) rest (length q)
+      ∙ drop-drop (length q) (i + length p) l ∙ ap (λ (k : ℕ). drop k l) m in
+      ap (λ (c : List A). take j c ++ (q ++ drop (j + length q) c)) (e ∙ a) ∙ ap₂ (λ (x y : List A). x ++ (q ++ y)) t d
+      ∙ append-assoc (take i l) p _ ∙ ap (λ (z : List A). take i l ++ z) (sym (append-assoc p q _))
+
+  pub over-over : (i : ℕ) (p q l : List A) → i ≡ length p → i + length q ≤ length l → over i q (over 0 p l) ≡ over 0 (p ++ q) l
+  over-over i p q l e h = over-next 0 i p q l (over 0 p l) refl (omega arith) h
 
   -- what is laid over a shorter front hides it
   pub over-absorb : (p q l : List A) → length q ≤ length p → over 0 p (over 0 q l) ≡ over 0 p l

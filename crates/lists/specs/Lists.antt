@@ -20,6 +20,10 @@ module _ {A : Type 0} where
   abbrev pub table : ℕ → ℕ → (ℕ → ℕ → A) → List A
   table T S f = flat T (λ (t : ℕ). tab S (f t))
 
+  -- the n places of l from place a on
+  abbrev pub part : ℕ → ℕ → List A → List A
+  part a n l = take n (drop a l)
+
   -- l with p laid over it from place i on; all else stays
   unfoldable pub over : ℕ → List A → List A → List A
   over i p l = take i l ++ (p ++ drop (i + length p) l)

@@ -5,7 +5,7 @@ use mathlib.Core.Bool.{Bool, true, false, not, _||_, _&&_}
 use mathlib.Core.Logic.{_⊎_, inl, inr, ⊎-elim}
 use native.Mathlib.Omega.{arith}
 use lib.Dec.{T, eqb, leb, ltb}
-use lib.Ieee.{Float, binary64, top, fits, ofBits, toBits, isNan, le, lt, eq}
+use lib.Ieee.{Float, binary64, top, fits, ofBits, toBits, nanBits, isNan, le, lt, eq}
 use lib.Ieee.Bits.{is-false, toBits-lt, toBits-ofBits, ofBits-toBits, nanBits-is, nanBits-above}
 use borrow.Author.Tests.{eqb-true, eq-eqb, ne-eqb, leb-true, leb-false, le-leb, lt-leb, le-ltb, ltb-true, ltb-false}
 use Rattle.floats.specs.Float.{nought, isPlusZero}
@@ -87,3 +87,22 @@ module _ (w : ℕ) (small : w < 2 ^ 64) where
 -- and the test of a value is that of its own word
 pub good-value : (x : Float) → T (fits binary64 x) → goodBits (toBits binary64 x) ≡ good x
 good-value x fit = good-bits (toBits binary64 x) (toBits-lt binary64 x fit) ∙ ap good (ofBits-toBits binary64 x fit)
+
+-- ---- the code's tests of a word
+module _ (w : ℕ) where
+  pub word-zero : w ≡ 0 → true ≡ goodBits w
+  unfolding goodBits
+  word-zero e = sym (rw (eq-eqb w 0 e))
+
+  pub word-clear : (w ≡ 0 → ⊥) → w < 0x8000000000000000 → false ≡ goodBits w
+  unfolding goodBits
+  word-clear n h = sym (rw (ne-eqb w 0 n, lt-leb 0x8000000000000000 w h))
+
+  pub word-set : (w ≡ 0 → ⊥) → 0x8000000000000000 ≤ w → leb w 0xfff0000000000000 ≡ goodBits w
+  unfolding goodBits
+  word-set n h = sym (rw (ne-eqb w 0 n, le-leb 0x8000000000000000 w h))
+
+  -- a good word is not a NaN's
+  pub good-not-nan : w < 2 ^ 64 → goodBits w ≡ true → T (not (nanBits binary64 w))
+  unfolding good
+  good-not-nan small h = rw (nanBits-is binary64 w) (low-number (valueOf w) (rw (sym (good-bits w small) ∙ h) tt))

@@ -1,13 +1,13 @@
 -- The top bit of a word: of two words with `|` and `&`, of a word and the one below it, and of an entry's bits.
-use Prim.Native.Nat.{ℕ, _+_, _/_, _%_, _^_, _≤_, _<_}
+use Prim.Native.Nat.{ℕ, _+_, _-_, _/_, _%_, _^_, _≤_, _<_}
 use mathlib.Core.Path.{_≡_, refl, sym, ap, ap₂, _∙_, subst}
 use mathlib.Core.Bool.{Bool, true, false, not, cond, _&&_, _||_}
 use native.Mathlib.Omega.{arith}
 use lib.Dec.{T, eqb, leb}
-use lib.Bits.{bitAnd, bitOr, and-shr, or-shr}
+use lib.Bits.{bitAnd, bitOr, and-shr, or-shr, and-lt}
 use lib.Ieee.{Float, binary64, fits, toBits, isNan, le}
 use lib.Ieee.Bits.{is-true, ofBits-toBits, toBits-lt}
-use borrow.Author.Tests.{eqb-true, eqb-false, leb-true, leb-false, le-leb, lt-leb}
+use borrow.Author.Tests.{eqb-true, eqb-false, ne-eqb, leb-true, leb-false, le-leb, lt-leb}
 use Rattle.floats.specs.Float.{nought}
 use Rattle.floats.proofs.Bits.{low-number}
 use Rattle.model.specs.Good.{good, goodBits}
@@ -103,3 +103,31 @@ nan-mark x h = go (le x nought) (low-number x)
     go : (b : Bool) → (T b → T (not (isNan x))) → false ≡ b
     go true k = sym h ∙ is-true _ (k tt)
     go false k = refl
+
+-- ---- the mark of a word: v is the word below it, u what it is with all bits of a fraction added, n its complement
+pub word-mark : (w v u n : ℕ) → w < 2 ^ 64 → v < 2 ^ 64 → (v + 1) % 2 ^ 64 ≡ w → u ≡ (w + 0x000fffffffffffff) % 2 ^ 64 → n ≡ 0xffffffffffffffff - w
+    → isSet (bitOr (bitAnd w u) (bitAnd n v)) ≡ goodBits w
+unfolding goodBits
+word-mark w v u n k h e f c =
+    set-or (bitAnd w u) (bitAnd n v) (and-lt 64 w u k few) (and-lt 64 n v (omega arith) h)
+    ∙ ap₂ _||_ (set-and w u k few) (set-and n v (omega arith) h)
+    ∙ go (isSet w) refl
+  where
+    few : u < 2 ^ 64
+    few = omega arith
+
+    -- with its top bit set a word's complement has none, and adding wraps past minus infinity's
+    signed : 0x8000000000000000 ≤ w → (b : Bool) → leb w 0xfff0000000000000 ≡ b → (isSet u || (isSet n && isSet v)) ≡ b
+    signed above true z = let most = leb-true w 0xfff0000000000000 z in rw (set-at u (omega arith))
+    signed above false z = let past = leb-false w 0xfff0000000000000 z in rw (not-set u (omega arith), not-set n (omega arith))
+
+    -- without it the word below has one where it wraps
+    unsigned : w < 0x8000000000000000 → (b : Bool) → eqb w 0 ≡ b → isSet v ≡ (b || false)
+    unsigned low true z = let none = eqb-true w 0 z in set-at v (omega arith)
+    unsigned low false z = let some = eqb-false w 0 z in not-set v (omega (arith, some))
+
+    go : (s : Bool) → isSet w ≡ s
+        → ((s && isSet u) || (isSet n && isSet v)) ≡ (eqb w 0 || (leb 0x8000000000000000 w && leb w 0xfff0000000000000))
+    go true s = let above = set-above w s in rw (ne-eqb w 0 (λ z. omega arith), le-leb 0x8000000000000000 w above)
+        (signed above (leb w 0xfff0000000000000) refl)
+    go false s = let low = set-below w s in rw (lt-leb 0x8000000000000000 w low, set-at n (omega arith)) (unsigned low (eqb w 0) refl)

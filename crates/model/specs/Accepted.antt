@@ -5,7 +5,7 @@ use mathlib.Core.Bool.{Bool}
 use mathlib.Core.List.{List}
 use lib.Dec.{T}
 use lib.ListN.{length}
-use lib.Ieee.{Float}
+use lib.Ieee.{Float, binary64, fits}
 use Rattle.floats.specs.Float.{at}
 use Rattle.model.specs.declared.Shape.{Shape}
 use Rattle.model.specs.Lent.{Tables, Lent}
@@ -16,12 +16,23 @@ use Rattle.model.specs.Model.{sampleAt}
 abbrev pub Every : (Float → Bool) → List Float → Type 0
 Every isGood xs = (i : ℕ) → i < length xs → T (isGood (at xs i))
 
--- S is 1 to 64 and M is 1 to 256, each table has exactly its length, and every entry is good
+-- every entry is an f64, as each entry of a lent table is
+pub record HeldTables (m : Tables) : Type 0 where
+  pub transition : Every (fits binary64) (m .transition)
+  pub emission : Every (fits binary64) (m .emission)
+  pub initial : Every (fits binary64) (m .initial)
+  pub end : Every (fits binary64) (m .end)
+
+-- S is 1 to 64, and M is 1 to 256
+pub record InRange (shape : Shape) : Type 0 where
+  pub someState : 0 < shape .states
+  pub fewStates : shape .states ≤ 64
+  pub someSymbol : 0 < shape .symbols
+  pub fewSymbols : shape .symbols ≤ 256
+
+-- the shape is in range, each table has exactly its length, and every entry is good
 pub record AcceptedTables (m : Tables) : Type 0 where
-  pub someState : 0 < m .shape .states
-  pub fewStates : m .shape .states ≤ 64
-  pub someSymbol : 0 < m .shape .symbols
-  pub fewSymbols : m .shape .symbols ≤ 256
+  pub inRange : InRange (m .shape)
   pub transitionLength : length (m .transition) ≡ m .shape .states * m .shape .states
   pub emissionLength : length (m .emission) ≡ m .shape .states * m .shape .symbols
   pub initialLength : length (m .initial) ≡ m .shape .states

@@ -1,6 +1,7 @@
 // The model's shape, the read of an entry, and which entries are good.
 use floats::is_number;
 use floats::is_plus_zero;
+use std::num::wrapping_add_u64;
 use std::num::wrapping_sub_u64;
 ghost use mathlib.Core.Path.{_≡_};
 ghost use mathlib.Core.Bool.{_||_};
@@ -8,7 +9,7 @@ ghost use Prim.Native.Nat.{_<_};
 ghost use lib.Dec.{eqb};
 ghost use lib.ListN.{length};
 ghost use Rattle.floats.specs.Float.{at};
-ghost use Rattle.model.specs.Good.{good, goodEnd};
+ghost use Rattle.model.specs.Good.{good, goodEnd, goodBits};
 ghost use Rattle.model.specs.inner.Marks.{isSet};
 
 // S states, M symbols, and whether the model has an end state.
@@ -49,6 +50,24 @@ pub fn is_set(mark: u64) -> bool
     ensures { λ r. ⌜ r ≡ isSet «mark» ⌝ }
 {
     0x8000000000000000 <= mark
+}
+
+// The mark of a word: its top bit is set where the word is that of a good entry. A word with its top bit set is one up to minus infinity's,
+// where adding all bits of the fraction does not wrap; a word without it is one where it is 0, so that the word below it wraps. There is no
+// comparison, which of whole numbers the processor cannot make for two words at once.
+pub fn mark_of_word(w: u64) -> u64
+    ensures { λ r. ⌜ isSet r ≡ goodBits w ⌝ }
+{
+    let below = wrapping_sub_u64(w, 1);
+    let past = wrapping_add_u64(w, 0x000fffffffffffff);
+    (w & past) | ((u64::MAX - w) & below)
+}
+
+// Whether a word is that of a good entry.
+pub fn is_good_word(w: u64) -> bool
+    ensures { λ r. ⌜ r ≡ goodBits w ⌝ }
+{
+    is_set(mark_of_word(w))
 }
 
 // Whether an entry is not NaN and at most 0.

@@ -1,7 +1,7 @@
 -- Where the lists of a frozen case lie, and of what kind it is.
 use mathlib.Core.Bool.{Bool, true, false, cond, _&&_}
 use mathlib.Core.List.{List, []}
-use Prim.Native.Nat.{ℕ, zero, suc, _+_, _-_, _*_}
+use Prim.Native.Nat.{ℕ, zero, suc, _+_, _-_, _*_, _%_}
 use lib.Dec.{eqb, ltb, leb}
 use lib.Ieee.{Float}
 use lib.ListN.{length, take, drop}
@@ -35,7 +35,10 @@ tableOf case numbers k = cond (leb (spanOf case k .end) (length numbers)) (part 
 abbrev pub endsWith : List ℕ → ℕ → Bool
 endsWith case k = spanOf case k .whole && eqb (spanOf case k .end) (length case)
 
--- The kind of a case, by its first word: the number of its call, and 18 more where it is altered. Twice the word, and one more where the
--- case differs; 72 where there is no such call.
+-- the first word of a case: the number of its call, one of 21, and 64 more where the case is altered
+abbrev pub isCall : ℕ → Bool
+isCall word = ltb word 128 && ltb (word % 64) 21
+
+-- the kind of a case, by its first word: twice the word, and one more where the case differs; 256 where there is no such call
 abbrev pub kindOf : ℕ → Bool → ℕ
-kindOf word differs = cond (ltb word 36) (2 * word + cond differs 1 0) 72
+kindOf word differs = cond (isCall word) (2 * word + cond differs 1 0) 256

@@ -1,6 +1,6 @@
 -- What differs from a frozen case: its words are the bits of numbers, bytes, or the parts of an answer.
 use Prim.Native.Nat.{ℕ, zero, suc}
-use mathlib.Core.Bool.{Bool, false, not, _&&_, _||_}
+use mathlib.Core.Bool.{Bool, false, cond, not, _&&_, _||_}
 use mathlib.Core.List.{List}
 use lib.Dec.{eqb, ltb}
 use lib.Ieee.{Float, nan, binary64, toBits}
@@ -8,6 +8,7 @@ use lib.ListN.{length, getD}
 use Rattle.floats.specs.Float.{isNumber}
 use Rattle.answer.specs.declared.Answer.{Answer}
 use Rattle.answer.specs.Answer.{numberOf}
+use Rattle.model.specs.declared.Shape.{Shape}
 use Rattle.program_io.specs.Words.{wordAt}
 
 -- the two numbers are not one
@@ -45,3 +46,11 @@ answerDiffers case a =
     || isOther (a .table) (wordAt case 2)
     || isOther (a .place) (wordAt case 3)
     || isOtherNumber (a .value) (wordAt case 4)
+
+-- the shape is not the list's: states, symbols, and 1 for an end state, 0 for none
+abbrev pub shapeDiffers : List ℕ → Shape → Bool
+shapeDiffers list shape =
+    isOther (shape .states) (wordAt list 0)
+    || isOther (shape .symbols) (wordAt list 1)
+    || isOther (cond (shape .ends) 1 0) (wordAt list 2)
+    || isOther (length list) 3

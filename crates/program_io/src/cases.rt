@@ -12,9 +12,9 @@ ghost use Rattle.program_io.specs.Words.{wordAt};
 
 // The number of the case's call, whether or not it is altered.
 pub fn call_of(case: &[u64]) -> u64
-    ensures { λ r. ⌜ r ≡ wordAt (now (case .entry)) 0 % 18 ⌝ }
+    ensures { λ r. ⌜ r ≡ wordAt (now (case .entry)) 0 % 64 ⌝ }
 {
-    word_at(case, 0) % 18
+    word_at(case, 0) % 64
 }
 
 // Where a list begins and ends, and whether the case has all of it.
@@ -100,7 +100,8 @@ pub fn ends_with(case: &[u64], k: usize) -> bool
 
 // Each word of the case as the number whose bits it is; past its end there is 0.
 pub fn numbers_of(case: &[u64], numbers: &mut [f64])
-    ensures { λ _. ⌜ now (numbers .exit) ≡ tab (ListN.length (now (numbers .entry))) (λ i. ofBits binary64 (wordAt (now (case .entry)) i)) ⌝ }
+    ensures { λ _. ⌜ now (numbers .exit) ≡
+        tab (ListN.length (now (numbers .entry))) (λ i. ofBits binary64 (wordAt (now (case .entry)) i)) ⌝ }
 {
     let mut i = 0;
     while i < numbers.len() {
@@ -116,6 +117,17 @@ pub fn samples_of(list: &[u64], samples: &mut [u16])
     let mut i = 0;
     while i < samples.len() {
         samples[i] = (word_at(list, i) % 65536) as u16;
+        i += 1;
+    }
+}
+
+// Each word of the list as a byte, which has its lowest 8 bits; past its end there is 0.
+pub fn bytes_of(list: &[u64], bytes: &mut [u8])
+    ensures { λ _. ⌜ now (bytes .exit) ≡ tab (ListN.length (now (bytes .entry))) (λ i. wordAt (now (list .entry)) i % 256) ⌝ }
+{
+    let mut i = 0;
+    while i < bytes.len() {
+        bytes[i] = (word_at(list, i) % 256) as u8;
         i += 1;
     }
 }

@@ -5,10 +5,12 @@ use crate::words::number;
 use crate::words::word_at;
 use answer::Answer;
 use floats::is_number;
+use model::Shape;
 ghost use mathlib.Core.Path.{_≡_};
+ghost use mathlib.Core.Bool.{cond};
 ghost use lib.Ieee.{ofBits, binary64};
 ghost use lib.ListN.{length, take, replicate};
-ghost use Rattle.program_io.specs.Compare.{isOther, isOtherNumber, otherNumber, otherByte, changed, answerDiffers};
+ghost use Rattle.program_io.specs.Compare.{isOther, isOtherNumber, otherNumber, otherByte, changed, answerDiffers, shapeDiffers};
 ghost use Rattle.program_io.specs.Cases.{listOf};
 
 // The most places of an output.
@@ -124,4 +126,25 @@ pub fn answer_differs(case: &[u64], a: Answer) -> bool
         | (a.table as u64 != word_at(case, 2))
         | (a.place as u64 != word_at(case, 3))
         | is_other(a.value, word_at(case, 4))
+}
+
+// The word of an end state: 1 where there is one, and 0 where there is none.
+fn end_word(ends: bool) -> u64
+    ensures { λ r. ⌜ r ≡ cond ends 1 0 ⌝ }
+{
+    if ends {
+        return 1;
+    }
+    0
+}
+
+// Whether the shape is another than the k-th list.
+pub fn shape_differs(case: &[u64], k: usize, shape: Shape) -> bool
+    ensures { λ r. ⌜ r ≡ shapeDiffers (listOf (now (case .entry)) k) shape ⌝ }
+{
+    let list = words(case, k);
+    (shape.states as u64 != word_at(list, 0))
+        | (shape.symbols as u64 != word_at(list, 1))
+        | (end_word(shape.ends) != word_at(list, 2))
+        | (list.len() != 3)
 }

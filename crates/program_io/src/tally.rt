@@ -9,13 +9,19 @@ ghost use lib.ListN.{getD, set};
 ghost use Rattle.program_io.specs.Cases.{kindOf};
 ghost use Rattle.program_io.specs.Words.{wordAt};
 
-// The kind of a case: twice its first word, and one more where it differs; 72 where there is no such call.
+// The kind of a case is a number below this one.
+pub const KINDS: usize = 256;
+
+// The kind of a case: twice its first word, and one more where it differs; 256 where there is no such call.
 pub fn kind(case: &[u64], differs: bool) -> usize
     ensures { λ r. ⌜ r ≡ kindOf (wordAt (now (case .entry)) 0) differs ⌝ }
 {
     let word = word_at(case, 0) as usize;
-    if word >= 36 {
-        return 72;
+    if word >= 128 {
+        return KINDS;
+    }
+    if word % 64 >= 21 {
+        return KINDS;
     }
     if differs {
         return 2 * word + 1;
@@ -24,8 +30,8 @@ pub fn kind(case: &[u64], differs: bool) -> usize
 }
 
 // One case more of this kind.
-pub fn add(counts: &mut [u64; 72], kind: usize)
-    requires { ⌜ kind < 72 ⌝ }
+pub fn add(counts: &mut [u64; KINDS], kind: usize)
+    requires { ⌜ kind < 256 ⌝ }
     ensures { λ _. ⌜ now (counts .exit) ≡ set (now (counts .entry)) kind ((getD (now (counts .entry)) kind 0 + 1) % 2 ^ 64) ⌝ }
 {
     counts[kind] = wrapping_add_u64(counts[kind], 1);
@@ -41,18 +47,18 @@ fn part(same: u64, different: u64) {
 }
 
 // The line of a call.
-fn line(name: &[u8], counts: &[u64; 72], call: usize)
-    requires { ⌜ call < 18 ⌝ }
+fn line(name: &[u8], counts: &[u64; KINDS], call: usize)
+    requires { ⌜ call < 21 ⌝ }
 {
     text(name);
     part(counts[2 * call], counts[2 * call + 1]);
     text(b"; altered:");
-    part(counts[36 + 2 * call], counts[36 + 2 * call + 1]);
+    part(counts[128 + 2 * call], counts[128 + 2 * call + 1]);
     text(b"\n");
 }
 
 // A line for each call.
-pub fn print(counts: &[u64; 72]) {
+pub fn print(counts: &[u64; KINDS]) {
     line(b"viterbi                 ", counts, 0);
     line(b"forward                 ", counts, 1);
     line(b"backward                ", counts, 2);
@@ -71,4 +77,7 @@ pub fn print(counts: &[u64; 72]) {
     line(b"Prob::from_log_prob     ", counts, 15);
     line(b"PHREDProb::from_log_prob", counts, 16);
     line(b"LogProb::from_phred_prob", counts, 17);
+    line(b"read_model              ", counts, 18);
+    line(b"write_model             ", counts, 19);
+    line(b"file_length             ", counts, 20);
 }

@@ -1,4 +1,4 @@
--- Demand 1 holds of the four calls on a model.
+-- Demand 1 holds of the four calls on a model and its samples, and of the reader and the writer of a model file.
 use Prim.Native.Nat.{ℕ, _*_, _<_, _≤_}
 use mathlib.Core.Path.{_≡_, refl, sym, _∙_}
 use mathlib.Core.Bool.{Bool, true, false, true≢false, cond}
@@ -8,7 +8,7 @@ use lib.Dec as Dec
 use lib.Dec.{ltb, ltb→lt}
 use lib.ListN.{length}
 use lib.Ieee.{Float}
-use Rattle.floats.specs.Float.{isMinusInfinity}
+use Rattle.floats.specs.Float.{nought, isMinusInfinity}
 use Rattle.lists.specs.Lists.{tab, table, after}
 use Rattle.lists.specs.First.{first}
 use Rattle.lists.proofs.First.{passes-there, passes-first}
@@ -16,15 +16,16 @@ use Rattle.answer.specs.Answer.{done, isDone, refuse, answered}
 use Rattle.answer.specs.Checks.{Tests, firstOf}
 use Rattle.answer.specs.declared.Answer.{Answer}
 use Rattle.answer.specs.declared.Refusal.the-variants.{ZeroMass}
-use Rattle.model.specs.Lent.{Lent, S, M, T}
+use Rattle.model.specs.Lent.{Tables, Lent, S, M, T}
 use Rattle.model.specs.Model.{Model, modelOf}
 use Rattle.checks.specs.Rooms.{Room, room}
-use Rattle.checks.specs.Checks.{tableRooms, testsOf, passage, check}
+use Rattle.checks.specs.Checks.{tableRooms, testsOf, passage, check, unsampled}
 use Rattle.checks.specs.Faults.{Fault, fault, shapeFaults, countFaults, roomFaults, badEntries, unknownSymbols, checkFaults, Some}
+use Rattle.checks.specs.Faults.{faultsOf, unsampledFaults}
 use Rattle.checks.specs.Exactly.{Exactly}
 use Rattle.checks.proofs.Tests.{is-true}
 use Rattle.checks.proofs.FirstFault.{Tells, Tell, exactly-first, exactly-both, not-some, some-left, some-right}
-use Rattle.checks.proofs.Tells.{to-T, apart, at-one, checks-tell, passage-tells}
+use Rattle.checks.proofs.Tells.{to-T, apart, at-one, checks-tell, passage-tells, unsampled-tells}
 use Rattle.best_path.specs.Walk.{value, from, bestPath, bestValue}
 use Rattle.viterbi.specs.Call as Viterbi
 use Rattle.viterbi.specs.Call.{Decoded}
@@ -34,7 +35,16 @@ use Rattle.occupancy.specs.Occupancy.{Walks, massless}
 use Rattle.baum_welch.specs.Pass.{newTransition, newEmission, newInitial, newEnd}
 use Rattle.baum_welch.specs.Call as BaumWelch
 use Rattle.baum_welch.specs.Call.{massTests, massCheck, massAnswer, walksOf, Trained}
+use Rattle.model_file.specs.declared.Reading.{Reading}
+use Rattle.model_file.specs.Layout.{modelFile}
+use Rattle.model_file.specs.Reading.{shapeOf, modelIn}
+use Rattle.model_file.specs.Checks.{readRooms, readTests, writeRooms}
+use Rattle.file_laws.specs.Faults.{tooShort, badLayout, badSums, badWords, readFaults}
+use Rattle.model_file.specs.Call as File
+use Rattle.model_file.specs.Call.{noShape, readCheck, Read, writeCheck, Written}
+use Rattle.file_laws.proofs.FileTells.{read-tells}
 use Rattle.promises.specs.Always.{Always, AllCallsAnswer, ZeroMassClears, onPassage, massFaults, walk, viterbi, baumWelch}
+use Rattle.promises.specs.Always.{readModel, writeModel}
 
 -- ---- a call on a model and one passage
 module _ (Outputs : Type 0) (needsSample : Bool) (rooms : Lent → Outputs → List Room) where
@@ -205,6 +215,100 @@ training-always =
     kept : (l : Lent) (o : BaumWelch.Outputs) → Trained l o (given l o) (left l o)
     kept l o = record { answer = refl; new = record { transition = refl; emission = refl; initial = refl; end = refl }; alpha = refl; beta = refl }
 
+-- ---- the model file: each list of checks tells its list of faults, and nothing is met on the way
+module _ (ts : Tests) (fs : List Fault) (t : Tell ts fs) where
+  refused-some : Some fs → isDone (firstOf ts) ≡ false
+  refused-some h = go (isDone (firstOf ts)) refl
+    where
+      go : (b : Bool) → isDone (firstOf ts) ≡ b → b ≡ false
+      go true e = absurd (not-some fs h (exactly-first ts fs t .doneOnlyThen e))
+      go false e = refl
+
+  answered-exactly : (v : Float) → Exactly (fs ++ []) (answered (firstOf ts) v)
+  unfolding firstOf
+  answered-exactly v = exactly-both ts [] fs [] t tt v
+
+abbrev readChecks : List ℕ → File.Outputs → Tests
+readChecks file o = readTests file (length (o .transition)) (length (o .emission)) (length (o .initial)) (length (o .end))
+
+pub read-always : Always readModel
+read-always =
+    record {
+      answers = λ file o. (given file o, left file o, kept file o);
+      exactly = λ file o e r p. rw (p .answer) (answered-exactly (readChecks file o) _ (tells file o) nought);
+      untouched = stays;
+      badEntry = λ file o e r p h. stays file o e r p (some-word file o h);
+    }
+  where
+    tells : (file : List ℕ) (o : File.Outputs)
+        → Tell (readChecks file o) (readFaults file (length (o .transition)) (length (o .emission)) (length (o .initial)) (length (o .end)))
+    tells file o = read-tells file _ _ _ _
+
+    given : (file : List ℕ) (o : File.Outputs) → Reading
+    given file o =
+        record { answer = answered (readCheck file o) nought; shape = cond (isDone (readCheck file o)) (shapeOf file) noShape }
+
+    left : (file : List ℕ) (o : File.Outputs) → File.Outputs
+    left file o =
+        let d = isDone (readCheck file o) in
+        let m = modelIn file in
+        File.outputs (after d (m .transition) (o .transition)) (after d (m .emission) (o .emission))
+        (after d (m .initial) (o .initial)) (after d (m .end) (o .end))
+
+    kept : (file : List ℕ) (o : File.Outputs) → Read file o (given file o) (left file o)
+    kept file o = record { answer = refl; shape = refl; transition = refl; emission = refl; initial = refl; end = refl }
+
+    stays : (file : List ℕ) (o e : File.Outputs) (r : Reading) → Read file o r e
+        → Some (readFaults file (length (o .transition)) (length (o .emission)) (length (o .initial)) (length (o .end)))
+        → (isDone (r .answer) ≡ false) × (e ≡ o)
+    stays file o e r p h =
+        let no : isDone (readCheck file o) ≡ false = refused-some (readChecks file o) _ (tells file o) h in
+        let transition : e .transition ≡ o .transition = rw no at (p .transition) in
+        let emission : e .emission ≡ o .emission = rw no at (p .emission) in
+        let initial : e .initial ≡ o .initial = rw no at (p .initial) in
+        let end : e .end ≡ o .end = rw no at (p .end) in
+        (rw (p .answer, no) no, λ i. File.outputs (transition i) (emission i) (initial i) (end i))
+
+    some-word : (file : List ℕ) (o : File.Outputs) → Some (badWords file)
+        → Some (readFaults file (length (o .transition)) (length (o .emission)) (length (o .initial)) (length (o .end)))
+    some-word file o h =
+        let rooms = roomFaults false 6
+        (readRooms (shapeOf file) (length (o .transition)) (length (o .emission)) (length (o .initial)) (length (o .end))) in
+        some-right (tooShort file ∷ (shapeFaults (shapeOf file) ++ (badLayout file ∷ []))) (badSums file ++ (rooms ++ badWords file))
+        (some-right (badSums file) (rooms ++ badWords file) (some-right rooms (badWords file) h))
+
+pub write-always : Always writeModel
+write-always =
+    record {
+      answers = λ m o.
+          let checks = writeCheck m o in
+          (answered checks nought, after (isDone checks) (modelFile m) o, record { answer = refl; file = refl });
+      exactly = λ m o e r p. rw (p .answer) (answered-exactly (testsOf m (unsampled (rooms m o))) _ (tells m o) nought);
+      untouched = stays;
+      badEntry = λ m o e r p h. stays m o e r p (some-bad m o h);
+    }
+  where
+    rooms : (m : Tables) (o : List ℕ) → List Room
+    rooms m o = writeRooms (m .shape) (length o)
+
+    tells : (m : Tables) (o : List ℕ)
+        → Tell (testsOf m (unsampled (writeRooms (m .shape) (length o)))) (faultsOf m (unsampledFaults (writeRooms (m .shape) (length o))))
+    tells m o = checks-tell m _ _ (unsampled-tells (writeRooms (m .shape) (length o)))
+
+    stays : (m : Tables) (o e : List ℕ) (r : Answer) → Written m o r e → Some (faultsOf m (unsampledFaults (writeRooms (m .shape) (length o))))
+        → (isDone r ≡ false) × (e ≡ o)
+    stays m o e r p h =
+        let no : isDone (writeCheck m o) ≡ false = refused-some _ _ (tells m o) h in
+        (rw (p .answer, no) no, rw no at (p .file))
+
+    some-bad : (m : Tables) (o : List ℕ) → Some (badEntries m) → Some (faultsOf m (unsampledFaults (writeRooms (m .shape) (length o))))
+    some-bad m o h =
+        let tables = roomFaults true 0 (tableRooms m) in
+        let outputs = roomFaults false 5 (writeRooms (m .shape) (length o)) in
+        some-right (shapeFaults (m .shape)) (tables ++ (outputs ++ (badEntries m ++ [])))
+        (some-right tables (outputs ++ (badEntries m ++ []))
+        (some-right outputs (badEntries m ++ []) (some-left (badEntries m) [] h)))
+
 pub all-calls-answer : AllCallsAnswer
 all-calls-answer =
     record {
@@ -212,6 +316,8 @@ all-calls-answer =
       ofForward = walk-always true (λ (l : Lent). forwardValue (modelOf l) (T l)) (λ (l : Lent). table (T l) (S l) (alpha (modelOf l)));
       ofBackward = walk-always false (λ (l : Lent). backwardValue (modelOf l) (T l)) (λ (l : Lent). table (T l) (S l) (beta (modelOf l) (T l)));
       ofBaumWelch = training-always;
+      ofReadModel = read-always;
+      ofWriteModel = write-always;
     }
 
 -- ---- after 9

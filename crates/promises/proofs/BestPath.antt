@@ -41,7 +41,7 @@ module _ (l : Lent) (value : Float) (path : List ℕ) (d : Defined l value path)
   long = omega (arith, d .someSample)
 
   some : 0 < S l
-  some = d .accepted .tables .someState
+  some = d .accepted .tables .inRange .someState
 
   low : Low (modelOf l) (suc n)
   low = rw long at (accepted-low l (d .accepted))
@@ -71,7 +71,7 @@ module _ (l : Lent) (value : Float) (path : List ℕ) (d : Defined l value path)
         let e : Lent.T l' ≡ suc n = sym (samples-long l l' r) ∙ long in
         let low' : Low (modelOf l') (suc n) = rw e at (accepted-low l' (d' .accepted)) in
         let below : Below (suc n) (modelOf l) (modelOf l') = rw long at (raised-below l l' (d .accepted) r) in
-        rw (value-is, value-at n l' value' path' d' e) (raising n (modelOf l) (modelOf l') below (d' .accepted .tables .someState) low')
+        rw (value-is, value-at n l' value' path' d' e) (raising n (modelOf l) (modelOf l') below (d' .accepted .tables .inRange .someState) low')
 
     is-lowered : Raised l' l → used l' path ≡ used l path → (path' ≡ path) × (value' ≡ value)
     is-lowered r u =

@@ -9,6 +9,7 @@ pub mod Unique
 pub mod Always
 pub mod Likelihood
 pub mod Pass
+pub mod ModelFile
 pub mod NoNan
 pub mod Leaves
 pub mod Kernels

@@ -45,7 +45,7 @@ module _ (m : Model) (n : ℕ) (low : Low m n) (some : 0 < m .states) where
       (alpha-above m n low t j w h s i)
 
 pub forward-is-above : ForwardIsAbove
-forward-is-above l a t j h s = cells-above (modelOf l) (Lent.T l) (accepted-low l a) (a .tables .someState) t j h s
+forward-is-above l a t j h s = cells-above (modelOf l) (Lent.T l) (accepted-low l a) (a .tables .inRange .someState) t j h s
 
 -- forward adds the end entry in any case: without an end state it is +0.0
 ended-above : (ends : Bool) (e x y : Float) → T (goodEnd ends e) → T (le e most) → T (fits binary64 y) → T (capped y) → T (le x y)
@@ -63,11 +63,11 @@ module _ (l : Lent) (a : Accepted l) where
       let b = a .tables in
       let low : Low m (suc n) = rw long at (accepted-low l a) in
       let j = lastState m n in
-      let s : j < m .states = last-below m (b .someState) n in
+      let s : j < m .states = last-below m (b .inRange .someState) n in
       let h = lt-suc-self n in
       le-le (closed m j (value m n j)) (alpha m n j ⊕ m .end j) _
       (ended-above (l .tables .shape .ends) (m .end j) (value m n j) (alpha m n j) (b .endGood j (rw (b .endLength) s)) (low .end j s)
-      (alpha-fits m n j) (lid-capped _ (alpha-lid m (suc n) low n j h s)) (cells-above m (suc n) low (b .someState) n j h s))
+      (alpha-fits m n j) (lid-capped _ (alpha-lid m (suc n) low n j h s)) (cells-above m (suc n) low (b .inRange .someState) n j h s))
       (forward-above m n low j s)
 
 pub likelihood-is-above : LikelihoodIsAbove

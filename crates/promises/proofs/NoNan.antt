@@ -35,7 +35,10 @@ use Rattle.likelihood.proofs.Bounds.{alpha-lid, beta-lid, forward-lid, backward
 use Rattle.baum_welch.specs.Pass.{probx}
 use Rattle.baum_welch.specs.Call as BaumWelch
 use Rattle.baum_welch.proofs.Walks.{probx-is}
-use Rattle.promises.specs.NoNan.{NoNan}
+use Rattle.model_file.specs.Call.{readCheck, writeCheck}
+use Rattle.promises.specs.ModelFile.{modelRead}
+use Rattle.promises.proofs.ModelFile.{model-accepted}
+use Rattle.promises.specs.NoNan.{NoNanFromFiles, NoNan}
 use Rattle.promises.proofs.Always.{all-calls-answer}
 use Rattle.promises.proofs.Left.{checks-done, tab-front, rows-front}
 use Rattle.promises.proofs.Pass.{pass-done, new-model-is-accepted}
@@ -86,7 +89,7 @@ of-viterbi l o e r p d =
     let h = checks-done (Viterbi.checked l o) (done (bestValue m (T l))) r (p .answer) d in
     let a = let-through false (Viterbi.rooms l o) l (h .0) .accepted in
     let low = accepted-low l a in
-    let some = a .tables .someState in (
+    let some = a .tables .inRange .someState in (
       done-capped r _ (h .1) (best-capped m (T l) some low),
       rows-capped _ (T l) (S l) (value m) (o .values) (e .values) (p .values) (h .0) (value-capped (T l) m some low),
     )
@@ -170,5 +173,37 @@ no-nan =
                     ),
                   ),
                 );
+          };
+    }
+
+-- ---- the model file: what is read is accepted
+table-capped : (good : Float → Bool) → ((x : Float) → Dec.T (good x) → Dec.T (capped x)) → (xs : List Float) → Every good xs → Every capped xs
+table-capped good h xs g i l = h _ (g i l)
+
+pub no-nan-from-files : NoNanFromFiles
+no-nan-from-files =
+    record {
+      ofReadModel = λ file o e r small p.
+          record {
+            value = answer-capped _ (r .answer) (all-calls-answer .ofReadModel .exactly file o e r p)
+                (λ d. done-capped (r .answer) nought (checks-done (readCheck file o) (done nought) (r .answer) (p .answer) d .1) tt);
+            written = λ d.
+                let m = modelRead r e in
+                let a = model-accepted file o e r small p d in (
+                  table-capped good good-capped (m .transition) (a .transitionGood),
+                  (
+                    table-capped good good-capped (m .emission) (a .emissionGood),
+                    (
+                      table-capped good good-capped (m .initial) (a .initialGood),
+                      (table-capped (goodEnd (m .shape .ends)) (end-capped (m .shape .ends)) (m .end) (a .endGood), tt),
+                    ),
+                  ),
+                );
+          };
+      ofWriteModel = λ m o e r p.
+          record {
+            value = answer-capped _ r (all-calls-answer .ofWriteModel .exactly m o e r p)
+                (λ d. done-capped r nought (checks-done (writeCheck m o) (done nought) r (p .answer) d .1) tt);
+            written = λ d. tt;
           };
     }

@@ -8,7 +8,7 @@ use Rattle.floats.specs.Float.{nought}
 use Rattle.answer.specs.declared.Answer.{Answer}
 use Rattle.probs.specs.Calls.{Cumulated}
 use Rattle.model.specs.Lent as Lent
-use Rattle.model.specs.Lent.{Lent, S}
+use Rattle.model.specs.Lent.{Tables, Lent, S}
 use Rattle.model.specs.Model.{modelOf}
 use Rattle.lists.specs.Lists.{table}
 use Rattle.best_path.specs.inner.Step.{Stored}
@@ -18,11 +18,14 @@ use Rattle.likelihood.specs.Walk.{alpha, forwardValue, beta, backwardValue}
 use Rattle.likelihood.specs.Call.{Forward, Backward, Walked}
 use Rattle.baum_welch.specs.Call as BaumWelch
 use Rattle.baum_welch.specs.Call.{Trained}
+use Rattle.model_file.specs.declared.Reading.{Reading}
+use Rattle.model_file.specs.Call as File
+use Rattle.model_file.specs.Call.{Read, Written}
 use Rattle.wasnugram.specs.Face.{flattened, Answers}
 use Rattle.wasnugram.specs.declared.WasnugramAnswer.{WasnugramAnswer}
-use Rattle.wasnugram.proofs.Face.{face-is-unique}
-use Rattle.promises.specs.Unique.{Unique, EveryPromiseIsUnique, OfFloats, OfAnswer, OfKernels, OfProb, OfLogProb, OfPHREDProb, OfSums}
-use Rattle.promises.specs.Unique.{OfModel, OfChecks, OfEmission, OfBestPath, OfOccupancy, OfCalls, OfExportedCalls, OfFace}
+use Rattle.wasnugram.proofs.Face.{face-is-unique, reading-is-unique}
+use Rattle.promises.specs.Unique.{Unique, EveryPromiseIsUnique, OfFloats, OfLittleEndian, OfAnswer, OfKernels, OfProb, OfLogProb, OfPHREDProb, OfSums}
+use Rattle.promises.specs.Unique.{OfModel, OfChecks, OfEmission, OfBestPath, OfOccupancy, OfCalls, OfModelFile, OfExportedCalls, OfFace}
 
 -- ---- a promise that is one equality
 one : {A : Type 0} (v : A) → Unique (λ (r : A). r ≡ v)
@@ -74,6 +77,22 @@ forward-one l = walked true (forwardValue (modelOf l) (Lent.T l)) (table (Lent.T
 backward-one : (l : Lent) (o : List Float) → Unique (λ (r : Answer × List Float). Backward l o (r .0) (r .1))
 backward-one l = walked false (backwardValue (modelOf l) (Lent.T l)) (table (Lent.T l) (S l) (beta (modelOf l) (Lent.T l))) l
 
+read-one : (file : List ℕ) (o : File.Outputs) → Unique (λ (r : Reading × File.Outputs). Read file o (r .0) (r .1))
+read-one file o x y p q =
+    let answer : x .0 .answer ≡ y .0 .answer = p .answer ∙ sym (q .answer) in
+    let shape : x .0 .shape ≡ y .0 .shape = p .shape ∙ sym (q .shape) in
+    let transition : x .1 .transition ≡ y .1 .transition = p .transition ∙ sym (q .transition) in
+    let emission : x .1 .emission ≡ y .1 .emission = p .emission ∙ sym (q .emission) in
+    let initial : x .1 .initial ≡ y .1 .initial = p .initial ∙ sym (q .initial) in
+    let end : x .1 .end ≡ y .1 .end = p .end ∙ sym (q .end) in
+    λ i. (record { answer = answer i; shape = shape i }, File.outputs (transition i) (emission i) (initial i) (end i))
+
+written-one : (m : Tables) (o : List ℕ) → Unique (λ (r : Answer × List ℕ). Written m o (r .0) (r .1))
+written-one m o x y p q =
+    let answer : x .0 ≡ y .0 = p .answer ∙ sym (q .answer) in
+    let file : x .1 ≡ y .1 = p .file ∙ sym (q .file) in
+    λ i. (answer i, file i)
+
 -- ---- an export that writes no memory
 flat : (v : Answer) → Unique (λ (r : WasnugramAnswer). Answers (λ (a : Answer). a ≡ v) r)
 flat v r s p q = p .flat ∙ ap flattened (p .promised ∙ sym (q .promised)) ∙ sym (q .flat)
@@ -89,6 +108,16 @@ of-floats =
       «is_infinite» = λ x. one _;
       «is_plus_zero» = λ x. one _;
       magnitude = λ x. one _;
+    }
+
+of-little-endian : OfLittleEndian
+of-little-endian =
+    record {
+      «two_bytes_at» = λ bytes at x y p q. p .0 ∙ sym (q .0);
+      «word_at» = λ bytes at. one _;
+      «sum_of» = λ bytes at n. one _;
+      «byte_of» = λ x j. one _;
+      put = λ bytes at width x. one _;
     }
 
 of-answer : OfAnswer
@@ -144,7 +173,14 @@ of-sums =
     }
 
 of-model : OfModel
-of-model = record { entry = λ table i. one _; «is_set» = λ mark. one _; «is_good» = λ x. one _; «is_good_end» = λ ends x. one _ }
+of-model =
+    record {
+      entry = λ table i. one _;
+      «is_set» = λ mark. one _;
+      «is_good» = λ x. one _;
+      «is_good_word» = λ w. one _;
+      «is_good_end» = λ ends x. one _;
+    }
 
 of-checks : OfChecks
 of-checks =
@@ -168,8 +204,8 @@ of-emission =
 of-best-path : OfBestPath
 of-best-path =
     record {
-      close = λ row k. one _;
-      «last_state» = λ row. one _;
+      close = λ ends end row k. one _;
+      «last_state» = λ ends end row. one _;
       trace = λ states from n last start path. one _;
       «lay_sums» = λ states sums emissions target values. one _;
       «lay_winners» = λ states winners target from. one _;
@@ -199,10 +235,16 @@ of-exported-calls l =
       «wasnugram_baum_welch» = λ o. face-is-unique _ _ (trained l o);
     }
 
+of-model-file : OfModelFile
+of-model-file = record { «read_model» = read-one; «write_model» = written-one; «file_length» = λ shape. one _ }
+
 of-face : OfFace
 of-face =
     record {
       calls = λ shape transition emission initial end samples. of-exported-calls _;
+      «wasnugram_read_model» = λ file o. reading-is-unique _ _ (read-one file o);
+      «wasnugram_write_model» = λ shape transition emission initial end o. face-is-unique _ _ (written-one _ o);
+      «wasnugram_model_file_length» = λ shape. one _;
       «wasnugram_exp» = λ d. flat _;
       «wasnugram_ln» = λ x. flat _;
       «wasnugram_ln_one_minus_exp» = λ p. flat _;
@@ -217,6 +259,7 @@ pub every-promise-is-unique : EveryPromiseIsUnique
 every-promise-is-unique =
     record {
       ofFloats = of-floats;
+      ofLittleEndian = of-little-endian;
       ofAnswer = of-answer;
       ofKernels = of-kernels;
       ofProb = of-prob;
@@ -229,5 +272,6 @@ every-promise-is-unique =
       ofBestPath = of-best-path;
       ofOccupancy = of-occupancy;
       ofCalls = of-calls;
+      ofModelFile = of-model-file;
       ofFace = of-face;
     }

@@ -10,10 +10,10 @@ use Rattle.floats.specs.Float.{nought, isMinusInfinity}
 use Rattle.lists.specs.Lists.{tab, over}
 use Rattle.answer.specs.Answer.{isDone}
 use Rattle.answer.specs.declared.Answer.{Answer}
-use Rattle.model.specs.Lent.{Lent, S, T}
+use Rattle.model.specs.Lent.{Tables, Lent, S, T}
 use Rattle.model.specs.Model.{Model, modelOf}
 use Rattle.checks.specs.Rooms.{Room, room}
-use Rattle.checks.specs.Faults.{Fault, fault, checkFaults, badEntries, Some, Faultless}
+use Rattle.checks.specs.Faults.{Fault, fault, faultsOf, checkFaults, unsampledFaults, badEntries, Some, Faultless}
 use Rattle.checks.specs.Exactly.{Exactly}
 use Rattle.viterbi.specs.Call as Viterbi
 use Rattle.viterbi.specs.Call.{Decoded}
@@ -21,26 +21,36 @@ use Rattle.likelihood.specs.Call.{Forward, Backward}
 use Rattle.occupancy.specs.Occupancy.{Walks, massless}
 use Rattle.baum_welch.specs.Call as BaumWelch
 use Rattle.baum_welch.specs.Call.{Trained, walksOf}
+use Rattle.model_file.specs.declared.Reading.{Reading}
+use Rattle.model_file.specs.Checks.{writeRooms}
+use Rattle.file_laws.specs.Faults.{badWords, readFaults}
+use Rattle.model_file.specs.Call as File
+use Rattle.model_file.specs.Call.{Read, Written}
 
--- a call: what it is lent to read and to write, what it promises, the faults that it looks for before it starts, the bad entries among
--- them, and the faults that it may meet on the way
+-- a call: what it is lent to read and to write, what it gives back and the answer in it, what it promises, the faults that it looks for
+-- before it starts, the bad entries among them, and the faults that it may meet on the way
 pub record Call : Type 1 where
   pub Input : Type 0
   pub Outputs : Type 0
-  pub Promise : Input → Outputs → Answer → Outputs → Type 0
+  pub Result : Type 0
+  pub answer : Result → Answer
+  pub Promise : Input → Outputs → Result → Outputs → Type 0
   pub checked : Input → Outputs → List Fault
   pub entries : Input → List Fault
   pub met : Input → Outputs → List Fault
 
 pub record Always (c : Call) : Type 1 where
   -- whatever is lent, some answer and final outputs meet the promise
-  pub answers : (l : c .Input) (o : c .Outputs) → (r : Answer) × (e : c .Outputs) × c .Promise l o r e
+  pub answers : (l : c .Input) (o : c .Outputs) → (r : c .Result) × (e : c .Outputs) × c .Promise l o r e
   -- every refusal is given exactly when RULES 3.2 says
-  pub exactly : (l : c .Input) (o e : c .Outputs) (r : Answer) → c .Promise l o r e → Exactly (c .checked l o ++ c .met l o) r
+  pub exactly : (l : c .Input) (o e : c .Outputs) (r : c .Result) → c .Promise l o r e
+      → Exactly (c .checked l o ++ c .met l o) (c .answer r)
   -- what is refused before the call starts leaves all memory alone (RULES 3.4)
-  pub untouched : (l : c .Input) (o e : c .Outputs) (r : Answer) → c .Promise l o r e → Some (c .checked l o) → (isDone r ≡ false) × (e ≡ o)
+  pub untouched : (l : c .Input) (o e : c .Outputs) (r : c .Result) → c .Promise l o r e → Some (c .checked l o)
+      → (isDone (c .answer r) ≡ false) × (e ≡ o)
   -- an entry that is NaN or above zero is refused, in every table, and every output is then what it was
-  pub badEntry : (l : c .Input) (o e : c .Outputs) (r : Answer) → c .Promise l o r e → Some (c .entries l) → (isDone r ≡ false) × (e ≡ o)
+  pub badEntry : (l : c .Input) (o e : c .Outputs) (r : c .Result) → c .Promise l o r e → Some (c .entries l)
+      → (isDone (c .answer r) ≡ false) × (e ≡ o)
 
 -- a call on a model and one passage, which needs a sample or not, by its promise, the room of its outputs and what it may meet
 module _ (Outputs : Type 0) (needsSample : Bool) (Promise : Lent → Outputs → Answer → Outputs → Type 0) where
@@ -49,6 +59,8 @@ module _ (Outputs : Type 0) (needsSample : Bool) (Promise : Lent → Outputs →
       record {
         Input = Lent;
         Outputs = Outputs;
+        Result = Answer;
+        answer = λ (r : Answer). r;
         Promise = Promise;
         checked = λ (l : Lent) (o : Outputs). checkFaults needsSample (rooms l o) l;
         entries = λ (l : Lent). badEntries (l .tables);
@@ -81,12 +93,43 @@ baumWelch =
     onPassage BaumWelch.Outputs true Trained BaumWelch.rooms
     (λ (l : Lent) (o : BaumWelch.Outputs). massFaults (modelOf l) (walksOf l))
 
--- of the four calls on a model
+-- a reader gives its answer with the shape beside it; its bad entries are the bad words of the file
+abbrev pub readModel : Call
+readModel =
+    record {
+      Input = List ℕ;
+      Outputs = File.Outputs;
+      Result = Reading;
+      answer = λ (r : Reading). r .answer;
+      Promise = Read;
+      checked = λ (file : List ℕ) (o : File.Outputs).
+          readFaults file (length (o .transition)) (length (o .emission)) (length (o .initial)) (length (o .end));
+      entries = badWords;
+      met = λ (file : List ℕ) (o : File.Outputs). [];
+    }
+
+-- a writer is lent no samples
+abbrev pub writeModel : Call
+writeModel =
+    record {
+      Input = Tables;
+      Outputs = List ℕ;
+      Result = Answer;
+      answer = λ (r : Answer). r;
+      Promise = Written;
+      checked = λ (m : Tables) (o : List ℕ). faultsOf m (unsampledFaults (writeRooms (m .shape) (length o)));
+      entries = badEntries;
+      met = λ (m : Tables) (o : List ℕ). [];
+    }
+
+-- of the four calls on a model and its samples, and of the two on a model file
 pub record AllCallsAnswer : Type 1 where
   pub ofViterbi : Always viterbi
   pub ofForward : Always forward
   pub ofBackward : Always backward
   pub ofBaumWelch : Always baumWelch
+  pub ofReadModel : Always readModel
+  pub ofWriteModel : Always writeModel
 
 -- after 9 a training pass has left the new tables alone and cleared the scratch that it needed (RULES 3.4)
 pub record Cleared (l : Lent) (o e : BaumWelch.Outputs) : Type 0 where

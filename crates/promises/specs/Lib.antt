@@ -5,6 +5,7 @@ pub mod Unique
 pub mod Always
 pub mod Likelihood
 pub mod Pass
+pub mod ModelFile
 pub mod NoNan
 pub mod Kernels
 pub mod EntryBits

@@ -1,6 +1,6 @@
 -- That no NaN comes out of any call, and no plus infinity of a call on a model. So where a promise says that two results are equal, their
 -- bits are.
-use Prim.Native.Nat.{_*_}
+use Prim.Native.Nat.{ℕ, _*_}
 use mathlib.Core.Path.{_≡_}
 use mathlib.Core.Bool.{true}
 use mathlib.Core.List.{List, [], _∷_}
@@ -13,13 +13,18 @@ use Rattle.answer.specs.declared.Answer.{Answer}
 use Rattle.kernels.specs.Calls.{expAnswer, lnAnswer, ln1mAnswer}
 use Rattle.probs.specs.Calls.{checkedAnswer, capAnswer, lnSumExpAnswer, lnAddExpAnswer, lnSubExpAnswer}
 use Rattle.probs.specs.Calls.{Cumulated, scaledAnswer, logToPhred, phredToLog}
-use Rattle.model.specs.Lent.{Lent, S, M, T}
+use Rattle.little_endian.specs.Bytes.{Below}
+use Rattle.model.specs.Lent.{Tables, Lent, S, M, T}
 use Rattle.model.specs.Accepted.{Every}
 use Rattle.viterbi.specs.Call as Viterbi
 use Rattle.viterbi.specs.Call.{Decoded}
 use Rattle.likelihood.specs.Call.{Forward, Backward}
 use Rattle.baum_welch.specs.Call as BaumWelch
 use Rattle.baum_welch.specs.Call.{Trained}
+use Rattle.model_file.specs.declared.Reading.{Reading}
+use Rattle.model_file.specs.Call as File
+use Rattle.model_file.specs.Call.{Read, Written}
+use Rattle.promises.specs.ModelFile.{modelRead}
 
 -- every entry of every list is neither NaN nor plus infinity
 abbrev pub AllCapped : List (List Float) → Type 0
@@ -45,6 +50,12 @@ pub record NoNan : Type 0 where
       ∷ take (T l * S l) (e .alpha)
       ∷ take (T l * S l) (e .beta)
       ∷ [])
+
+-- of the two on a model file, whatever they are lent: bytes are below 256
+pub record NoNanFromFiles : Type 0 where
+  pub ofReadModel : (file : List ℕ) (o e : File.Outputs) (r : Reading) → Below 256 file → Read file o r e
+      → let m = modelRead r e in Clean (r .answer) (m .transition ∷ m .emission ∷ m .initial ∷ m .end ∷ [])
+  pub ofWriteModel : (m : Tables) (o e : List ℕ) (r : Answer) → Written m o r e → Clean r []
 
 -- the answer's value is a number
 abbrev pub Numeric : Answer → Type 0

@@ -1,7 +1,7 @@
 -- That a promise leaves one result (RULES 8.2): two results that meet it are equal. There is a line for each public function, by its name in
 -- the code and with the promise of its contract; one that writes memory gives what its outputs hold at the end. What a function asks of its
 -- caller is not needed for it. The inner functions that promise less than one result are listed in docs/LOOSE.md.
-use Prim.Native.Nat.{ℕ, _-_}
+use Prim.Native.Nat.{ℕ, _-_, _*_, _/_, _%_, _^_, _<_}
 use mathlib.Core.Path.{_≡_}
 use mathlib.Core.Bool.{Bool, _||_}
 use mathlib.Core.List.{List}
@@ -9,7 +9,8 @@ use lib.ListN.{length, getD}
 use lib.Ieee.{Float}
 use Rattle.floats.specs.Float as Float
 use Rattle.floats.specs.Float.{_⊕_, minusInfinity, isNumber, isMinusInfinity, isPlusInfinity, isInfinite, isPlusZero, at}
-use Rattle.lists.specs.Lists.{tab, over, firstBad}
+use Rattle.lists.specs.Lists.{tab, part, over, firstBad}
+use Rattle.little_endian.specs.Bytes.{little, value, words, sum}
 use Rattle.answer.specs.Answer as Spec
 use Rattle.answer.specs.Answer.{numberOf}
 use Rattle.answer.specs.Checks.{firstOf}
@@ -30,8 +31,8 @@ use Rattle.probs.specs.declared.PHREDProb.{PHREDProb}
 use Rattle.probs.specs.declared.sum.Peak.{Peak}
 use Rattle.probs.specs.declared.sum.Open.{Open}
 use Rattle.model.specs.declared.Shape.{Shape}
-use Rattle.model.specs.Lent.{Tables, Lent, lent}
-use Rattle.model.specs.Good.{good, goodEnd}
+use Rattle.model.specs.Lent.{Tables, Lent, tablesOf, lent}
+use Rattle.model.specs.Good.{good, goodEnd, goodBits}
 use Rattle.model.specs.inner.Marks.{isSet}
 use Rattle.model.specs.Model.{emissionOf}
 use Rattle.checks.specs.Rooms.{roomsOf}
@@ -39,7 +40,7 @@ use Rattle.checks.specs.Checks.{shapeTests, countTests, roomTests, entryTests, 
 use Rattle.checks.specs.inner.Parts.{sizesOf, restTests}
 use Rattle.emission.specs.inner.Row.{firstRow}
 use Rattle.best_path.specs.Best.{greatest}
-use Rattle.best_path.specs.Walk.{pathTo}
+use Rattle.best_path.specs.Walk.{ended, pathTo}
 use Rattle.best_path.specs.inner.Back.{fromAt}
 use Rattle.best_path.specs.inner.Step.{Stepped}
 use Rattle.best_path.specs.inner.Rows.{RowsStored}
@@ -50,8 +51,12 @@ use Rattle.occupancy.specs.Occupancy as Occupancy
 use Rattle.occupancy.specs.inner.Rows.{rowsOf}
 use Rattle.baum_welch.specs.Call as BaumWelch
 use Rattle.baum_welch.specs.Call.{Trained}
-use Rattle.wasnugram.specs.Face.{shapeOf, Answers}
+use Rattle.model_file.specs.declared.Reading.{Reading}
+use Rattle.model_file.specs.Call as File
+use Rattle.model_file.specs.Call.{Read, Written, lengthOf}
+use Rattle.wasnugram.specs.Face.{shapeOf, Answers, Reads}
 use Rattle.wasnugram.specs.declared.WasnugramAnswer.{WasnugramAnswer}
+use Rattle.wasnugram.specs.declared.WasnugramReading.{WasnugramReading}
 use Rattle.wasnugram.specs.declared.WasnugramShape.{WasnugramShape}
 
 -- any two results that meet the promise are equal
@@ -66,6 +71,13 @@ pub record OfFloats : Type 0 where
   pub «is_infinite» : (x : Float) → Unique (λ (r : Bool). r ≡ isInfinite x)
   pub «is_plus_zero» : (x : Float) → Unique (λ (r : Bool). r ≡ isPlusZero x)
   pub magnitude : (x : Float) → Unique (λ (r : Float). r ≡ Float.magnitude x)
+
+pub record OfLittleEndian : Type 0 where
+  pub «two_bytes_at» : (bytes : List ℕ) (at : ℕ) → Unique (λ (r : ℕ). (r ≡ value (part at 2 bytes)) × (r < 2 ^ 16))
+  pub «word_at» : (bytes : List ℕ) (at : ℕ) → Unique (λ (r : ℕ). r ≡ value (part at 8 bytes))
+  pub «sum_of» : (bytes : List ℕ) (at n : ℕ) → Unique (λ (r : ℕ). r ≡ sum (words n (part at (8 * n) bytes)))
+  pub «byte_of» : (x j : ℕ) → Unique (λ (r : ℕ). r ≡ x / 2 ^ (8 * j) % 256)
+  pub put : (bytes : List ℕ) (at width x : ℕ) → Unique (λ (e : List ℕ). e ≡ over at (little width x) bytes)
 
 pub record OfAnswer : Type 0 where
   pub number : (refusal : Refusal) → Unique (λ (r : ℕ). r ≡ numberOf refusal)
@@ -117,6 +129,7 @@ pub record OfModel : Type 0 where
   pub entry : (table : List Float) (i : ℕ) → Unique (λ (r : Float). r ≡ at table i)
   pub «is_set» : (mark : ℕ) → Unique (λ (r : Bool). r ≡ isSet mark)
   pub «is_good» : (x : Float) → Unique (λ (r : Bool). r ≡ good x)
+  pub «is_good_word» : (w : ℕ) → Unique (λ (r : Bool). r ≡ goodBits w)
   pub «is_good_end» : (ends : Bool) (x : Float) → Unique (λ (r : Bool). r ≡ goodEnd ends x)
 
 pub record OfChecks : Type 0 where
@@ -139,8 +152,9 @@ pub record OfEmission : Type 0 where
   pub «first_row» : (initial emissions values : List Float) → Unique (λ (e : List Float). e ≡ over 0 (firstRow initial emissions) values)
 
 pub record OfBestPath : Type 0 where
-  pub close : (row : List Float) (k : ℕ) → Unique (λ (r : Float). r ≡ at row k)
-  pub «last_state» : (row : List Float) → Unique (λ (r : ℕ). r ≡ greatest (length row) (at row))
+  pub close : (ends : Bool) (end row : List Float) (k : ℕ) → Unique (λ (r : Float). r ≡ ended ends (at end k) (at row k))
+  pub «last_state» : (ends : Bool) (end row : List Float)
+      → Unique (λ (r : ℕ). r ≡ greatest (length row) (λ (j : ℕ). ended ends (at end j) (at row j)))
   pub trace : (states : ℕ) (from : List ℕ) (n last start : ℕ) (path : List ℕ)
       → Unique (λ (e : List ℕ). e ≡ over start (pathTo (fromAt states from) (n - 1) last) path)
   pub «lay_sums» : (states : ℕ) (sums emissions : List Float) (target : ℕ) (values : List Float)
@@ -167,6 +181,12 @@ pub record OfCalls : Type 0 where
   pub backward : (l : Lent) (o : List Float) → Unique (λ (r : Answer × List Float). Backward l o (r .0) (r .1))
   pub «baum_welch» : (l : Lent) (o : BaumWelch.Outputs) → Unique (λ (r : Answer × BaumWelch.Outputs). Trained l o (r .0) (r .1))
 
+-- the calls on a model file: the reading or the answer, and every output
+pub record OfModelFile : Type 0 where
+  pub «read_model» : (file : List ℕ) (o : File.Outputs) → Unique (λ (r : Reading × File.Outputs). Read file o (r .0) (r .1))
+  pub «write_model» : (m : Tables) (o : List ℕ) → Unique (λ (r : Answer × List ℕ). Written m o (r .0) (r .1))
+  pub «file_length» : (shape : Shape) → Unique (λ (r : ℕ). r ≡ lengthOf shape)
+
 -- the exports of the C face on a model, by what they are lent to read
 pub record OfExportedCalls (l : Lent) : Type 0 where
   pub «wasnugram_viterbi» : (o : Outputs) → Unique (λ (r : WasnugramAnswer × Outputs). Answers (λ (a : Answer). Decoded l o a (r .1)) (r .0))
@@ -177,10 +197,16 @@ pub record OfExportedCalls (l : Lent) : Type 0 where
   pub «wasnugram_baum_welch» : (o : BaumWelch.Outputs)
       → Unique (λ (r : WasnugramAnswer × BaumWelch.Outputs). Answers (λ (a : Answer). Trained l o a (r .1)) (r .0))
 
--- all twelve
+-- all fifteen
 pub record OfFace : Type 0 where
   pub calls : (shape : WasnugramShape) (transition emission initial end : List Float) (samples : List ℕ)
       → OfExportedCalls (lent (shapeOf shape) transition emission initial end samples)
+  pub «wasnugram_read_model» : (file : List ℕ) (o : File.Outputs)
+      → Unique (λ (r : WasnugramReading × File.Outputs). Reads (λ (a : Reading). Read file o a (r .1)) (r .0))
+  pub «wasnugram_write_model» : (shape : WasnugramShape) (transition emission initial end : List Float) (o : List ℕ)
+      → Unique (λ (r : WasnugramAnswer × List ℕ).
+      Answers (λ (a : Answer). Written (tablesOf (shapeOf shape) transition emission initial end) o a (r .1)) (r .0))
+  pub «wasnugram_model_file_length» : (shape : WasnugramShape) → Unique (λ (r : ℕ). r ≡ lengthOf (shapeOf shape))
   pub «wasnugram_exp» : (d : Float) → Unique (λ (r : WasnugramAnswer). Answers (λ (a : Answer). a ≡ expAnswer d) r)
   pub «wasnugram_ln» : (x : Float) → Unique (λ (r : WasnugramAnswer). Answers (λ (a : Answer). a ≡ lnAnswer x) r)
   pub «wasnugram_ln_one_minus_exp» : (p : Float) → Unique (λ (r : WasnugramAnswer). Answers (λ (a : Answer). a ≡ ln1mAnswer p) r)
@@ -195,6 +221,7 @@ pub record OfFace : Type 0 where
 -- all of them
 pub record EveryPromiseIsUnique : Type 0 where
   pub ofFloats : OfFloats
+  pub ofLittleEndian : OfLittleEndian
   pub ofAnswer : OfAnswer
   pub ofKernels : OfKernels
   pub ofProb : OfProb
@@ -207,4 +234,5 @@ pub record EveryPromiseIsUnique : Type 0 where
   pub ofBestPath : OfBestPath
   pub ofOccupancy : OfOccupancy
   pub ofCalls : OfCalls
+  pub ofModelFile : OfModelFile
   pub ofFace : OfFace

@@ -1,6 +1,7 @@
 // The gate-post examples of RULES 9, run through the public calls. Each line is an example's name, the number of the refusal, the table
-// and the place that it names, the bits of the value, and the path where one is written; the file stdout beside src/ has what the rules
-// say of each.
+// and the place that it names, the bits of the value, and the path where one is written. A line of F1 to F5 has after the value the bytes
+// of the file that is written, or the shape and the tables that are read. The file stdout beside src/ has what the rules say of each.
+mod files;
 mod leaves;
 mod passes;
 mod paths;
@@ -16,4 +17,6 @@ fn main() {
     passes::no_mass();
     leaves::kernels();
     leaves::sums();
+    files::model_p();
+    files::with_an_end();
 }

@@ -1,5 +1,6 @@
-// Lines on standard output: answers with their labels, and paths.
+// Lines on standard output: answers with their labels, paths, files, shapes and tables.
 use answer::Answer;
+use model::Shape;
 use program_io::lines;
 use program_io::lines::count;
 use program_io::lines::text;
@@ -25,4 +26,44 @@ pub fn states(path: &[u8; 3], n: usize) {
     state(0 < n, path[0]);
     state(1 < n, path[1]);
     state(2 < n, path[2]);
+}
+
+// A space where there is a gap.
+fn gap(here: bool) {
+    if here {
+        text(b" ");
+    }
+}
+
+// The bytes of a file in hexadecimal, eight by eight.
+pub fn bytes(file: &[u8]) {
+    let mut i = 0;
+    while i < file.len() {
+        gap(i % 8 == 0);
+        io::print_hex(1, wide(file[i]), 2);
+        i += 1;
+    }
+}
+
+// States, symbols, and 1 for an end state.
+pub fn shape(shape: Shape) {
+    text(b" ");
+    count(shape.states as u64);
+    text(b" ");
+    count(shape.symbols as u64);
+    if shape.ends {
+        text(b" 1");
+    } else {
+        text(b" 0");
+    }
+}
+
+// The bits of a table's entries.
+pub fn entries(table: &[f64]) {
+    let mut i = 0;
+    while i < table.len() {
+        text(b" ");
+        lines::bits(table[i]);
+        i += 1;
+    }
 }

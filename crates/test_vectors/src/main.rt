@@ -2,6 +2,7 @@
 // as they are afterwards. Each call is made through the public functions; answer and outputs are compared word by word, surplus included.
 // A line for each call says how many cases are the same and how many differ, and then the same of the cases that the list marks as
 // altered, each of which has one word that is wrong and must differ.
+mod files;
 mod leaves;
 mod walks;
 
@@ -9,6 +10,7 @@ use program_io::cases::call_of;
 use program_io::cases::numbers_of;
 use program_io::lines::text;
 use program_io::tally;
+use program_io::tally::KINDS;
 use program_io::words::read_words;
 
 // Whether the case differs from what its call does.
@@ -18,13 +20,16 @@ fn differs(case: &[u64], call: u64) -> bool {
     if call < 4 {
         return walks::on_model(case, &space, call);
     }
-    leaves::on_numbers(case, &space, call)
+    if call < 18 {
+        return leaves::on_numbers(case, &space, call);
+    }
+    files::on_file(case, &space, call)
 }
 
-// The kind of the case that fills the space; 72 where the input has no whole case.
+// The kind of the case that fills the space; 256 where the input has no whole case.
 fn replay_case(space: &mut [u64]) -> usize {
     if read_words(space) < space.len() {
-        return 72;
+        return KINDS;
     }
     tally::kind(space, differs(space, call_of(space)))
 }
@@ -39,7 +44,7 @@ fn replay_next() -> usize {
             return replay_case(&mut space[..n]);
         }
     }
-    72
+    KINDS
 }
 
 // Whether the input is at its end.
@@ -50,11 +55,11 @@ fn ended() -> bool {
 
 // Replays so many cases and prints what they came to.
 fn replay(count: u64) {
-    let mut counts = [0u64; 72];
+    let mut counts = [0u64; KINDS];
     let mut i = 0;
     while i < count {
         let kind = replay_next();
-        if kind >= 72 {
+        if kind >= KINDS {
             break;
         }
         tally::add(&mut counts, kind);

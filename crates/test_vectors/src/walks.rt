@@ -21,7 +21,7 @@ use program_io::words::word_at;
 use viterbi::viterbi;
 
 // The shape of a case, whose words are the first three of its lists: states, symbols, and 1 for an end state.
-fn shape_of(case: &[u64]) -> Shape {
+pub fn shape_of(case: &[u64]) -> Shape {
     Shape {
         states: word_at(case, 6) as usize,
         symbols: word_at(case, 7) as usize,

@@ -7,11 +7,13 @@ ghost use mathlib.Core.Path.{_≡_};
 ghost use Rattle.answer.specs.declared.Answer.{Answer};
 ghost use Rattle.kernels.specs.Calls.{expAnswer, lnAnswer, ln1mAnswer};
 ghost use Rattle.probs.specs.Calls.{lnSumExpAnswer, lnAddExpAnswer, lnSubExpAnswer, capAnswer, Cumulated};
-ghost use Rattle.model.specs.Lent.{lent};
+ghost use Rattle.model.specs.Lent.{tablesOf, lent};
 ghost use Rattle.viterbi.specs.Call.{Decoded, outputs};
 ghost use Rattle.likelihood.specs.Call.{Forward, Backward};
 ghost use Rattle.baum_welch.specs.Call.{Trained, outputs as trained};
-ghost use Rattle.wasnugram.specs.Face.{shapeOf, flattened, Answers};
+ghost use Rattle.model_file.specs.declared.Reading.{Reading};
+ghost use Rattle.model_file.specs.Call.{Read, Written, lengthOf, outputs as tables};
+ghost use Rattle.wasnugram.specs.Face.{shapeOf, flatShape, flattened, Answers, Reads};
 
 // S states, M symbols, and whether the model has an end state: 0 for no, anything else for yes.
 #[repr(C)]
@@ -30,6 +32,13 @@ pub struct WasnugramAnswer {
     pub value: f64,
 }
 
+// What a reader gives back: its answer, and the shape of the model that it read.
+#[repr(C)]
+pub struct WasnugramReading {
+    pub answer: WasnugramAnswer,
+    pub shape: WasnugramShape,
+}
+
 // An answer as C takes it.
 fn flat(answer: Answer) -> WasnugramAnswer
     ensures { λ r. ⌜ r ≡ flattened answer ⌝ }
@@ -40,6 +49,17 @@ fn flat(answer: Answer) -> WasnugramAnswer
         table: answer.table,
         place: answer.place,
         value: answer.value,
+    }
+}
+
+// A shape as C takes it.
+fn flat_shape(shape: Shape) -> WasnugramShape
+    ensures { λ r. ⌜ r ≡ flatShape shape ⌝ }
+{
+    WasnugramShape {
+        states: shape.states,
+        symbols: shape.symbols,
+        ends: shape.ends as u8,
     }
 }
 
@@ -173,6 +193,65 @@ pub extern "C" fn wasnugram_baum_welch(
         alpha,
         beta,
     ))
+}
+
+// Reads a model file into four lent tables.
+#[no_mangle]
+pub extern "C" fn wasnugram_read_model(
+    file: &[u8],
+    transition: &mut [f64],
+    emission: &mut [f64],
+    initial: &mut [f64],
+    end: &mut [f64],
+) -> WasnugramReading
+    ensures { λ r. ⌜ Reads (λ (a : Reading). Read
+        (now (file .entry))
+        (tables (now (transition .entry)) (now (emission .entry)) (now (initial .entry)) (now (end .entry)))
+        a
+        (tables (now (transition .exit)) (now (emission .exit)) (now (initial .exit)) (now (end .exit)))) r ⌝ }
+{
+    let reading = model_file::read_model(file, transition, emission, initial, end);
+    let answer = reading.answer;
+    let shape = reading.shape;
+    WasnugramReading {
+        answer: flat(answer),
+        shape: flat_shape(shape),
+    }
+}
+
+// Writes the file of a model.
+#[no_mangle]
+pub extern "C" fn wasnugram_write_model(
+    shape: WasnugramShape,
+    transition: &[f64],
+    emission: &[f64],
+    initial: &[f64],
+    end: &[f64],
+    file: &mut [u8],
+) -> WasnugramAnswer
+    ensures { λ r. ⌜ Answers (λ (a : Answer). Written
+        (tablesOf (shapeOf shape) (now (transition .entry)) (now (emission .entry)) (now (initial .entry)) (now (end .entry)))
+        (now (file .entry)) a (now (file .exit))) r ⌝ }
+{
+    let shape = Shape {
+        states: shape.states,
+        symbols: shape.symbols,
+        ends: shape.ends != 0,
+    };
+    flat(model_file::write_model(shape, transition, emission, initial, end, file))
+}
+
+// The bytes of a file of this shape.
+#[no_mangle]
+pub extern "C" fn wasnugram_model_file_length(shape: WasnugramShape) -> usize
+    ensures { λ r. ⌜ r ≡ lengthOf (shapeOf shape) ⌝ }
+{
+    let shape = Shape {
+        states: shape.states,
+        symbols: shape.symbols,
+        ends: shape.ends != 0,
+    };
+    model_file::file_length(shape)
 }
 
 // exp(d), d at most 0.

@@ -1,6 +1,5 @@
 -- `checks::check_sizes` meets its contract: its three parts in order, each made where those before it found no fault.
 use Prim.Native.Nat.{_≤_}
-use mathlib.Core.Path.{_≡_}
 use borrow.Author.Needs.{needs}
 use native.Mathlib.Omega.{arith}
 use native.Mathlib.Nat.{mul-le-mul}

@@ -70,8 +70,8 @@ decode-requires c κs =
     let m = h .accepted .tables in
     record {
       walkable = record {
-        someState = m .someState;
-        fewStates = m .fewStates;
+        someState = m .inRange .someState;
+        fewStates = m .inRange .fewStates;
         transitionLength = m .transitionLength;
         initialLength = m .initialLength;
         valuesRoom = h .roomy .1 .0;
