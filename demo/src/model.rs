@@ -58,6 +58,14 @@ impl Tables {
         self
     }
 
+    /// Those of a model.
+    pub fn of(model: &Model) -> Tables {
+        Tables {
+            entries: [model.transition, model.emission, model.initial, model.end].map(<[f64]>::to_vec),
+            ends: model.shape.ends,
+        }
+    }
+
     pub fn lend(&self) -> Model<'_> {
         let [transition, emission, initial, end] = &self.entries;
         Model {

@@ -2,6 +2,7 @@
 
 use crate::decode::{fares, Decoded};
 use crate::exit_lane::{Exit, ExitLane};
+use crate::file_flip::{FileFlip, Refusals};
 use crate::flip::{Flip, Outcome, Tally};
 use crate::morning::Morning;
 use crate::recording::Passage;
@@ -14,8 +15,11 @@ pub fn report(morning: &Morning) -> String {
         lines.extend(passage(at + 1, recorded, decoded));
     }
     lines.extend(takings(&morning.fares()));
-    lines.extend(flip(morning.flip, &morning.outcome));
-    lines.extend(tally(&morning.tally));
+    lines.extend(flip(morning.flip, &morning.in_file));
+    let flipped = "every bit of the model file flips, one at a time";
+    lines.extend(refusals(flipped, &morning.flips));
+    lines.extend(refusals("the model file is cut off, at every length", &morning.cuts));
+    lines.extend(bare_tables(&morning.tally));
     lines.join("\n") + "\n"
 }
 
@@ -72,33 +76,41 @@ fn takings(paid: &[Fare]) -> Vec<String> {
 
 fn flip(flip: Flip, outcome: &Outcome) -> [String; 6] {
     let entry = |entry: f64| format!("{:016x} = {entry:+.6}", entry.to_bits());
+    let byte = FileFlip::of(flip).byte;
     [
         String::new(),
-        format!("one bit of the model flips: {}", words::flip(flip)),
+        format!("one bit of the model file flips: in byte {byte}, {}", words::flip(flip)),
         format!("  before  {}", entry(outcome.before)),
         format!("  after   {}", entry(outcome.after)),
         format!("  answer  {}", words::answer(outcome)),
-        format!("  memory  {}", words::memory(outcome)),
+        format!("  memory  {}", words::memory(outcome, "read")),
     ]
 }
 
-fn tally(tally: &Tally) -> [String; 5] {
-    let line = |count, what| format!("  {:>7}  {what}", words::grouped(count));
+/// How many files the reader refused with each number.
+fn refusals(what: &str, refusals: &Refusals) -> Vec<String> {
+    let line = |count, what: &str| format!("  {:>7}  {what}", words::grouped(count));
+    let mut lines = vec![
+        String::new(),
+        format!("{what}: {} files", words::grouped(refusals.files())),
+    ];
+    let refused = refusals.refused.iter();
+    lines.extend(refused.map(|(number, count)| {
+        let why = words::refusal(*number);
+        line(*count, &format!("are refused with {number}: {why}"))
+    }));
+    lines.push(line(refusals.read, "are read"));
+    lines
+}
+
+/// What the file is for: bare tables have no sums.
+fn bare_tables(tally: &Tally) -> [String; 3] {
+    let [flips, refused] = [tally.flips(), tally.refused].map(words::grouped);
+    let share = 100.0 * tally.refused as f64 / tally.flips() as f64;
     [
         String::new(),
-        format!(
-            "every bit of the model flips, one at a time: {} flips",
-            words::grouped(tally.flips())
-        ),
-        line(
-            tally.refused,
-            "make an entry that is not good: refused, with its table and place",
-        ),
-        line(
-            tally.accepted,
-            "leave an entry that is at most 0: accepted, a logarithm like any other",
-        ),
-        line(tally.wrong, "are answered otherwise"),
+        format!("every bit of the tables flips, once they are read: {flips} flips"),
+        format!("  a call refuses {refused} ({share:.1}%); the others are accepted, and some of them change a fare"),
     ]
 }
 

@@ -4,6 +4,7 @@ use crate::decode::runs;
 use crate::flip::{Flip, Outcome};
 use crate::model::{columns, EMISSION, NAMES, TRANSITION};
 use crate::states::{Fare, ALL, BARRIERS, HEIGHTS};
+use wasnugram::Refusal;
 
 /// A row of states in run lengths; an empty one stands for samples that no row explains.
 pub fn row(row: &[u8]) -> String {
@@ -76,19 +77,35 @@ pub fn answer(outcome: &Outcome) -> String {
     let Some(table) = refused.table.map(|table| usize::from(table.number())) else {
         return refused.to_string();
     };
-    let number = refused.refusal.number();
-    let place = place(table, refused.place);
-    format!(
-        "refusal {number}, table {table} ({}), place {}: {place}",
-        NAMES[table], refused.place
-    )
+    let (number, name) = (refused.refusal.number(), NAMES[table]);
+    match refused.refusal {
+        Refusal::BadSum => format!("refusal {number}, table {table} ({name}): its sum is not that of its entries"),
+        _ => format!(
+            "refusal {number}, table {table} ({name}), place {}: {}",
+            refused.place,
+            place(table, refused.place)
+        ),
+    }
 }
 
-pub fn memory(outcome: &Outcome) -> &'static str {
+/// What the reader finds wrong with a file that it refuses with this number.
+pub fn refusal(number: u8) -> &'static str {
+    match Refusal::from_number(number) {
+        Some(Refusal::BadStates) => "a model has 1 to 64 states",
+        Some(Refusal::BadSymbols) => "a model has 1 to 256 symbols",
+        Some(Refusal::BadLayout) => "the layout is not that of the shape",
+        Some(Refusal::BadSum) => "a sum is not that of its table",
+        Some(Refusal::NotGood) => "an entry is not good",
+        _ => "answered otherwise",
+    }
+}
+
+/// What became of the lent memory where nothing should have been done.
+pub fn memory(outcome: &Outcome, done: &str) -> String {
     if outcome.untouched {
-        "nothing was decoded: no byte that was lent has changed"
+        format!("nothing was {done}: no byte that was lent has changed")
     } else {
-        "lent bytes have changed"
+        "lent bytes have changed".to_string()
     }
 }
 

@@ -8,12 +8,19 @@ use demo::picture::picture;
 use demo::recording::{read, LONGEST};
 use demo::report::{exits, report};
 use demo::simulation::simulated;
+use demo::stored::Stored;
 use wasnugram::{Refusal, Table};
 
 const RECORDING: &str = include_str!("../morning.txt");
 
 fn morning() -> Morning {
-    Morning::of(RECORDING).unwrap()
+    of(RECORDING).unwrap()
+}
+
+/// A recording, decoded by the stored model.
+fn of(recording: &str) -> Result<Morning, String> {
+    let stored = Stored::read(include_bytes!("../model.bin").to_vec()).unwrap();
+    Morning::of(recording, &stored)
 }
 
 #[test]
@@ -88,12 +95,12 @@ fn accepted_flips_seldom_change_a_fare() {
 #[test]
 fn the_picture_cuts_a_long_note() {
     let note = format!("{} and nobody else", "a very tall adult, ".repeat(20));
-    let drawn = picture(&Morning::of(&format!("07:58:04 007f00 {note}\n")).unwrap());
+    let drawn = picture(&of(&format!("07:58:04 007f00 {note}\n")).unwrap());
     assert!(drawn.contains(">a very tall adult, a very tall adult, a very tall adu…</text>"));
     assert!(!drawn.contains("nobody else"));
 }
 
 #[test]
 fn a_recording_without_a_passage_is_no_morning() {
-    assert_eq!(Morning::of("# Today\n").err().unwrap(), "line 2: a passage is wanted");
+    assert_eq!(of("# Today\n").err().unwrap(), "line 2: a passage is wanted");
 }

@@ -28,7 +28,7 @@ pub fn panel(left: usize, top: usize, width: usize, morning: &Morning) -> String
         bits(inner, top + 50, "before", outcome.before, None),
         bits(inner, top + 76, "after", outcome.after, Some(flip.bit)),
         line(126, "strong", &words::answer(outcome)),
-        line(150, "", words::memory(outcome)),
+        line(150, "", &words::memory(outcome, "decoded")),
         line(184, "soft", &all_flips(&morning.tally)),
     ]
     .concat()

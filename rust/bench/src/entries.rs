@@ -28,7 +28,7 @@ pub fn contest() {
 }
 
 /// A random model with an end state whose rows are distributions, and no samples.
-fn good_model() -> Case {
+pub fn good_model() -> Case {
     let sizes = Sizes {
         states: 12,
         symbols: 256,

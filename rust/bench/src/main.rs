@@ -9,6 +9,7 @@
 mod contest;
 mod entries;
 mod leaves;
+mod model_file;
 mod walks;
 
 use compare::engine::REFERENCE;
@@ -25,6 +26,8 @@ fn main() {
     walks::viterbi_with_end_state(12, 240);
     print_heading("entries checked");
     entries::contest();
+    print_heading("model file");
+    model_file::contest();
     print_heading("plain exp as written");
     for call in [Call::Forward, Call::Backward] {
         walks::contest(walks::AS_WRITTEN, call, 12, 240);

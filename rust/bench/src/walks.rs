@@ -76,7 +76,7 @@ fn forward_alone(states: usize, samples: usize) -> Times {
 }
 
 /// Plain Rust, and the library where it is at hand.
-fn without_bio(call: Call, case: &Case) -> Rivals<'_> {
+pub fn without_bio(call: Call, case: &Case) -> Rivals<'_> {
     Rivals {
         plain: on_lent_memory(REFERENCE, call, case),
         bio: None,
@@ -108,5 +108,6 @@ fn bio<'a>(call: Call, model: &'a dyn Walks, samples: &'a [usize]) -> Rival<'a> 
         Call::Forward => Box::new(|| drop(black_box(model.forward(black_box(samples))))),
         Call::Backward => Box::new(|| drop(black_box(model.backward(black_box(samples))))),
         Call::BaumWelch => Box::new(|| drop(black_box(model.baum_welch(black_box(samples))))),
+        Call::WriteModel => unreachable!("bio has no model file"),
     }
 }

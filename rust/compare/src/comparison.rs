@@ -1,5 +1,7 @@
 //! What is compared with what, on which cases.
 
+mod model_files;
+
 use crate::case::{self, Case, Sizes};
 use crate::damage::damaged;
 use crate::engine::{self, Engine, REFERENCE};
@@ -34,6 +36,9 @@ pub struct Amount {
     pub leaves: usize,
     /// Rounds of words as entries, about 9,500 cases each; ten have every size of a table once.
     pub entries: usize,
+    /// Rounds of model files, 27 cases each; one round in sixteen is on a model of any size, and 64 of those have every
+    /// number of states.
+    pub files: usize,
 }
 
 /// What there is to compare, and what was found.
@@ -62,6 +67,7 @@ impl Comparison {
         comparison.near(amount);
         comparison.leaves(amount);
         comparison.entries(amount);
+        comparison.model_files(amount);
         println!();
         comparison.tally.print();
         comparison.tally.wrong()
@@ -114,20 +120,23 @@ impl Comparison {
         }
     }
 
-    /// Every call on lent memory: the reference by RULES 3.4, and the library against it.
+    /// Every call on lent memory.
     fn lent(&mut self, case: &Case) {
-        for call in CALLS {
-            let pattern = self.random.bits();
-            let outputs = |case: &Case| lend(call, case, &mut Random::new(pattern));
-            let row = format!("{}: reference, its lent memory", call.name());
-            let refusal = self.add(&row, case, &|case| likeness::memory(call, case, None, outputs(case)));
-            self.tally.answered(call.name(), refusal);
-            if let Some(library) = self.library {
-                let row = format!("{}: library, reference", call.name());
-                self.add(&row, case, &|case| {
-                    likeness::library(&library, call, case, outputs(case))
-                });
-            }
+        CALLS.into_iter().for_each(|call| self.lent_call(call, case));
+    }
+
+    /// A call on lent memory: the reference by RULES 3.4, and the library against it.
+    fn lent_call(&mut self, call: Call, case: &Case) {
+        let pattern = self.random.bits();
+        let outputs = |case: &Case| lend(call, case, &mut Random::new(pattern));
+        let row = format!("{}: reference, its lent memory", call.name());
+        let refusal = self.add(&row, case, &|case| likeness::memory(call, case, None, outputs(case)));
+        self.tally.answered(call.name(), refusal);
+        if let Some(library) = self.library {
+            let row = format!("{}: library, reference", call.name());
+            self.add(&row, case, &|case| {
+                likeness::library(&library, call, case, outputs(case))
+            });
         }
     }
 
@@ -208,26 +217,31 @@ impl Comparison {
     /// Damaged models, for every refusal from 1 to 8 in every call.
     fn damaged(&mut self, amount: &Amount) {
         for number in 0..amount.damaged {
-            let sizes = Sizes {
-                samples: self.random.below(33),
-                ..Sizes::sweep(number, 0, &mut self.random)
-            };
-            let case = case::any(sizes, &mut self.random);
-            let call = CALLS[number % CALLS.len()];
-            let Some(damaged) = damaged(call, &case, &mut self.random) else {
-                continue;
-            };
-            let mut outputs = lend(call, &case, &mut self.random);
-            damaged.cut(&mut outputs);
-            let verdict = likeness::memory(call, &damaged.case, Some(damaged.named), outputs.clone());
-            self.tally.answered(call.name(), verdict.refusal);
-            let row = format!("{}: reference, refused for its damage", call.name());
+            self.damaged_call(CALLS[number % CALLS.len()], number);
+        }
+    }
+
+    /// A call on a damaged model of the numberth sizes: the reference by what the damage leads to, the library against
+    /// it.
+    fn damaged_call(&mut self, call: Call, number: usize) {
+        let sizes = Sizes {
+            samples: self.random.below(33),
+            ..Sizes::sweep(number, 0, &mut self.random)
+        };
+        let case = case::any(sizes, &mut self.random);
+        let Some(damaged) = damaged(call, &case, &mut self.random) else {
+            return;
+        };
+        let mut outputs = lend(call, &case, &mut self.random);
+        damaged.cut(&mut outputs);
+        let verdict = likeness::memory(call, &damaged.case, Some(damaged.named), outputs.clone());
+        self.tally.answered(call.name(), verdict.refusal);
+        let row = format!("{}: reference, refused for its damage", call.name());
+        self.plain(&row, &verdict, || format!("{:?}", damaged.case));
+        if let Some(library) = self.library {
+            let verdict = likeness::library(&library, call, &damaged.case, outputs);
+            let row = format!("{}: library, reference, damaged", call.name());
             self.plain(&row, &verdict, || format!("{:?}", damaged.case));
-            if let Some(library) = self.library {
-                let verdict = likeness::library(&library, call, &damaged.case, outputs);
-                let row = format!("{}: library, reference, damaged", call.name());
-                self.plain(&row, &verdict, || format!("{:?}", damaged.case));
-            }
         }
     }
 

@@ -38,8 +38,11 @@ pub fn refusals(call: Call) -> impl Iterator<Item = u8> {
         NOT_GOOD,
         UNKNOWN_SYMBOL,
     ];
-    all.into_iter()
-        .filter(move |refusal| *refusal != NO_SAMPLES || call.needs_samples())
+    all.into_iter().filter(move |refusal| match *refusal {
+        NO_SAMPLES => call.needs_samples(),
+        UNKNOWN_SYMBOL => call.takes_samples(),
+        _ => true,
+    })
 }
 
 /// Damage of one kind to a case with samples.
@@ -84,6 +87,7 @@ fn damage(refusal: u8, call: Call, damaged: &mut Damaged, random: &mut Random) -
     match refusal {
         BAD_STATES => Some(bad_states(damaged, random)),
         BAD_SYMBOLS => Some(bad_symbols(damaged, random)),
+        TOO_MANY_SAMPLES | UNKNOWN_SYMBOL if !call.takes_samples() => None,
         TOO_MANY_SAMPLES => Some(too_many_samples(damaged, random)),
         NO_SAMPLES => no_samples(call, damaged),
         WRONG_LENGTH => Some(wrong_length(damaged, random)),

@@ -5,7 +5,7 @@ mod proved;
 
 use crate::case::Case;
 use crate::lent::{Call, Output};
-use reference::{leaves, Answer, Estimates};
+use reference::{leaves, Answer, Estimates, Reading, Shape, Tables};
 
 /// Something that answers calls.
 #[derive(Clone, Copy)]
@@ -13,6 +13,7 @@ pub struct Engine {
     /// A call on a model, on lent memory.
     pub call: fn(Call, &Case, &mut [Output]) -> Answer,
     pub leaves: Leaves,
+    pub model_file: ModelFile,
 }
 
 /// A leaf of one argument, and one of two.
@@ -32,6 +33,13 @@ pub struct Leaves {
     pub ln_cumsum_exp: fn(&[f64], &mut [f64]) -> Answer,
 }
 
+/// The reader of a model file, and the length of one. Its writer is a call on a model.
+#[derive(Clone, Copy)]
+pub struct ModelFile {
+    pub read: fn(&[u8], &mut Tables) -> Reading,
+    pub length: fn(Shape) -> usize,
+}
+
 /// The independent reference.
 pub const REFERENCE: Engine = Engine {
     call: reference_call,
@@ -44,6 +52,10 @@ pub const REFERENCE: Engine = Engine {
         cap_numerical_overshoot: leaves::cap_numerical_overshoot,
         ln_sum_exp: leaves::ln_sum_exp,
         ln_cumsum_exp: leaves::ln_cumsum_exp,
+    },
+    model_file: ModelFile {
+        read: reference::read_model,
+        length: reference::file_length,
     },
 };
 
@@ -68,6 +80,7 @@ fn reference_call(call: Call, case: &Case, outputs: &mut [Output]) -> Answer {
         (Call::Forward, [Output::Numbers(values)]) => reference::forward(&model, &case.samples, values),
         (Call::Backward, [Output::Numbers(values)]) => reference::backward(&model, &case.samples, values),
         (Call::BaumWelch, outputs) => reference::baum_welch(&model, &case.samples, &mut estimates(outputs)),
+        (Call::WriteModel, [Output::Bytes(file)]) => reference::write_model(&model, file),
         _ => unreachable!("each call is lent its own outputs"),
     }
 }

@@ -6,7 +6,7 @@
 
 mod rounds;
 mod to_freeze;
-mod words;
+pub mod words;
 
 pub use rounds::round;
 pub use to_freeze::to_freeze;
@@ -19,15 +19,15 @@ use reference::answer::{END, NOT_GOOD};
 use reference::Answer;
 
 /// The bits of -0.0 and of minus infinity.
-const MINUS_ZERO: u64 = 0x8000_0000_0000_0000;
-const MINUS_INFINITY: u64 = 0xfff0_0000_0000_0000;
+pub const MINUS_ZERO: u64 = 0x8000_0000_0000_0000;
+pub const MINUS_INFINITY: u64 = 0xfff0_0000_0000_0000;
 
 /// How many entries the library looks at at once.
 const BLOCK: usize = 128;
 
 /// Whether an entry of these bits is good, RULES 2.5 said of whole numbers: no bit is set, or the sign is and the rest is
 /// at most infinity's.
-fn is_good(word: u64) -> bool {
+pub fn is_good(word: u64) -> bool {
     word == 0 || (MINUS_ZERO..=MINUS_INFINITY).contains(&word)
 }
 

@@ -7,16 +7,23 @@
 
 use crate::case::Case;
 use crate::lent::{Call, Output};
-use reference::Answer;
+use crate::model_file::{Left, Lent};
+use reference::{Answer, Shape};
 
 /// Outputs are filled with this byte before the call.
 pub const FILL: u8 = 0xa5;
 
+/// So an output of numbers is filled with this one.
+pub const FILLED: f64 = f64::from_bits(u64::from_le_bytes([FILL; 8]));
+
 /// The most words that a case has, its length not counted.
 pub const MOST_WORDS: usize = 8192;
 
+/// The call's number of an altered case is by so much greater.
+pub const ALTERED: u64 = 64;
+
 /// The calls of the list, by number.
-pub const NAMES: [&str; 18] = [
+pub const NAMES: [&str; 21] = [
     "viterbi",
     "forward",
     "backward",
@@ -35,6 +42,9 @@ pub const NAMES: [&str; 18] = [
     "LogProb to Prob",
     "LogProb to PHREDProb",
     "PHREDProb to LogProb",
+    "read_model",
+    "write_model",
+    "file_length",
 ];
 
 /// One case of the list.
@@ -47,34 +57,48 @@ pub struct Frozen {
 }
 
 impl Frozen {
-    /// A call on a model: the shape, the four tables, the samples, then each output as it is left.
+    /// A call on a model: the shape, the four tables, the samples if it takes any, then each output as it is left.
     pub fn of_model(call: Call, case: &Case, answer: &Answer, after: &[Output]) -> Frozen {
-        let shape = [
-            case.shape.states as u64,
-            case.shape.symbols as u64,
-            u64::from(case.shape.ends),
-        ];
-        let mut lists = vec![shape.to_vec()];
+        let mut lists = vec![shape_words(case.shape)];
         lists.extend(case.model().tables().iter().map(|table| bits(table)));
-        lists.push(case.samples.iter().map(|sample| u64::from(*sample)).collect());
+        if call.takes_samples() {
+            lists.push(case.samples.iter().map(|sample| u64::from(*sample)).collect());
+        }
         lists.extend(after.iter().map(Output::bits));
         Frozen {
-            call: call as u64,
+            call: number_of(call.name()),
             answer: answer_words(answer),
             lists,
         }
     }
 
+    /// The reader: the file, then the shape that it gives and the four tables as they are left.
+    pub fn of_reading(lent: &Lent, left: &Left) -> Frozen {
+        let mut lists = vec![lent.file.iter().map(|byte| u64::from(*byte)).collect()];
+        lists.push(shape_words(left.reading.shape));
+        lists.extend(left.tables.iter().map(|table| bits(table)));
+        Frozen {
+            call: number_of("read_model"),
+            answer: answer_words(&left.reading.answer),
+            lists,
+        }
+    }
+
+    /// The length of a file: the shape.
+    pub fn of_length(shape: Shape, length: usize) -> Frozen {
+        Frozen {
+            call: number_of("file_length"),
+            answer: answer_words(&Answer::done(length as f64)),
+            lists: vec![shape_words(shape)],
+        }
+    }
+
     /// A leaf: its arguments, then its output, if it has one, as it is left.
     pub fn of_leaf(name: &str, arguments: &[f64], answer: &Answer, output: Option<&[f64]>) -> Frozen {
-        let call = NAMES
-            .iter()
-            .position(|known| *known == name)
-            .expect("a call of the list");
         let mut lists = vec![bits(arguments)];
         lists.extend(output.map(bits));
         Frozen {
-            call: call as u64,
+            call: number_of(name),
             answer: answer_words(answer),
             lists,
         }
@@ -84,7 +108,7 @@ impl Frozen {
     /// last place of an output, the lowest or the highest, is another, or there is a list too many.
     pub fn altered(&self) -> Vec<Frozen> {
         let mut marked = self.clone();
-        marked.call += NAMES.len() as u64;
+        marked.call += ALTERED;
         let mut cases = vec![marked.clone()];
         cases[0].lists.push(Vec::new());
         for bit in [1, 1 << 63] {
@@ -106,10 +130,10 @@ impl Frozen {
 
     /// How many of the lists are what the call reads.
     fn inputs(&self) -> usize {
-        if self.call < 4 {
-            6
-        } else {
-            1
+        match NAMES[self.call as usize] {
+            "viterbi" | "forward" | "backward" | "baum_welch" => 6,
+            "write_model" => 5,
+            _ => 1,
         }
     }
 
@@ -122,6 +146,17 @@ impl Frozen {
         }
         words
     }
+}
+
+/// The number of a call.
+fn number_of(name: &str) -> u64 {
+    let number = NAMES.iter().position(|known| *known == name);
+    number.expect("a call of the list") as u64
+}
+
+/// States, symbols, and 1 for an end state.
+fn shape_words(shape: Shape) -> Vec<u64> {
+    vec![shape.states as u64, shape.symbols as u64, u64::from(shape.ends)]
 }
 
 fn bits(numbers: &[f64]) -> Vec<u64> {
@@ -182,6 +217,7 @@ fn case_of(words: &[u64]) -> Frozen {
 #[cfg(test)]
 mod tests {
     use super::*;
+    use crate::engine::REFERENCE;
 
     #[test]
     fn reading_gives_what_was_written() {
@@ -191,16 +227,51 @@ mod tests {
         assert_eq!(read(&write(&cases)), cases);
     }
 
-    #[test]
-    fn an_altered_case_is_marked_and_has_one_fault() {
-        let sums = Frozen::of_leaf("ln_cumsum_exp", &[-1.0], &Answer::done(-1.0), Some(&[-1.0, 0.0]));
-        let altered = sums.altered();
-        assert_eq!(altered.len(), 1 + 2 * (4 + 2));
-        for case in altered {
-            assert_eq!(case.call, sums.call + NAMES.len() as u64);
-            let (whole, words) = (sums.words(), case.words());
+    /// How many altered copies a case has, after it was seen that each is marked and has one fault.
+    fn altered(whole: &Frozen) -> usize {
+        let altered = whole.altered();
+        for case in &altered {
+            assert_eq!(case.call, whole.call + ALTERED);
+            let (whole, words) = (whole.words(), case.words());
             let others = words[1..].iter().zip(&whole[1..]).filter(|(a, b)| a != b).count();
             assert_eq!(others + words.len() - whole.len(), 1);
         }
+        altered.len()
+    }
+
+    #[test]
+    fn an_altered_case_is_marked_and_has_one_fault() {
+        let sums = Frozen::of_leaf("ln_cumsum_exp", &[-1.0], &Answer::done(-1.0), Some(&[-1.0, 0.0]));
+        assert_eq!(altered(&sums), 1 + 2 * (4 + 2));
+    }
+
+    #[test]
+    fn calls_on_model_files_have_their_lists() {
+        let case = Case {
+            shape: Shape {
+                states: 1,
+                symbols: 2,
+                ends: true,
+            },
+            transition: vec![-1.0],
+            emission: vec![-2.0, -3.0],
+            initial: vec![-4.0],
+            end: vec![-5.0],
+            samples: vec![1],
+        };
+        let lent = Lent::of(&case, [1; 4]);
+        let reading = Frozen::of_reading(&lent, &lent.read_by(&REFERENCE));
+        let lengths = |frozen: &Frozen| -> Vec<usize> { frozen.lists.iter().map(Vec::len).collect() };
+        assert_eq!((reading.call, lengths(&reading)), (18, vec![112, 3, 2, 3, 2, 2]));
+        assert_eq!(altered(&reading), 1 + 2 * (4 + 2 * 5));
+        let file = [Output::Bytes(lent.file)];
+        let writing = Frozen::of_model(Call::WriteModel, &case, &Answer::done(0.0), &file);
+        assert_eq!((writing.call, lengths(&writing)), (19, vec![3, 1, 2, 1, 1, 112]));
+        assert_eq!(altered(&writing), 1 + 2 * (4 + 2));
+        let length = Frozen::of_length(case.shape, 112);
+        assert_eq!((length.call, lengths(&length)), (20, vec![3]));
+        assert_eq!((altered(&length), length.answer[3]), (9, 112.0_f64.to_bits()));
+        let cases = vec![reading, writing, length];
+        assert_eq!(read(&write(&cases)), cases);
     }
 }

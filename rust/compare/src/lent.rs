@@ -12,8 +12,10 @@ pub enum Call {
     Forward,
     Backward,
     BaumWelch,
+    WriteModel,
 }
 
+/// The calls on a model and its samples.
 pub const CALLS: [Call; 4] = [Call::Viterbi, Call::Forward, Call::Backward, Call::BaumWelch];
 
 impl Call {
@@ -23,12 +25,18 @@ impl Call {
             Call::Forward => "forward",
             Call::Backward => "backward",
             Call::BaumWelch => "baum_welch",
+            Call::WriteModel => "write_model",
         }
     }
 
     /// Whether the call refuses to answer for no samples.
     pub fn needs_samples(self) -> bool {
         matches!(self, Call::Forward | Call::BaumWelch)
+    }
+
+    /// Whether the call is lent samples at all.
+    pub fn takes_samples(self) -> bool {
+        self != Call::WriteModel
     }
 
     /// The length that each output needs, in argument order.
@@ -39,6 +47,16 @@ impl Call {
             Call::Viterbi => vec![case.samples.len(), cells, cells],
             Call::Forward | Call::Backward => vec![cells],
             Call::BaumWelch => vec![states * states, states * symbols, states, states, cells, cells],
+            Call::WriteModel => vec![reference::file_length(case.shape)],
+        }
+    }
+
+    /// Whether the output of this place is bytes.
+    pub fn writes_bytes(self, place: usize) -> bool {
+        match self {
+            Call::Viterbi => place != 1,
+            Call::WriteModel => true,
+            _ => false,
         }
     }
 
@@ -57,7 +75,7 @@ pub enum Output {
 
 impl Output {
     fn filled(call: Call, place: usize, length: usize, random: &mut Random) -> Output {
-        if call == Call::Viterbi && place != 1 {
+        if call.writes_bytes(place) {
             Output::Bytes((0..length).map(|_| random.bits() as u8).collect())
         } else {
             Output::Numbers((0..length).map(|_| f64::from_bits(random.bits())).collect())

@@ -10,6 +10,7 @@ pub mod grids;
 pub mod leaves;
 pub mod lent;
 pub mod likeness;
+pub mod model_file;
 pub mod random;
 pub mod shrink;
 pub mod tally;

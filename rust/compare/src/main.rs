@@ -20,6 +20,7 @@ const DEFAULT: Amount = Amount {
     near: 300,
     leaves: 100_000,
     entries: 10,
+    files: 8_192,
 };
 
 const LONG: Amount = Amount {
@@ -35,6 +36,7 @@ const LONG: Amount = Amount {
     near: 2_000,
     leaves: 1_000_000,
     entries: 100,
+    files: 65_536,
 };
 
 fn main() -> ExitCode {

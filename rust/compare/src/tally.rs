@@ -3,6 +3,9 @@
 use crate::verdict::{Intended, Verdict};
 use std::collections::BTreeMap;
 
+/// The refusal numbers that a call on a model or on its file may answer, 0 for done.
+const ANSWERS: [usize; 12] = [0, 1, 2, 3, 4, 5, 6, 7, 8, 9, 13, 14];
+
 #[derive(Default)]
 struct Row {
     cases: u64,
@@ -16,7 +19,7 @@ pub struct Tally {
     names: Vec<String>,
     rows: BTreeMap<String, Row>,
     intended: BTreeMap<Intended, u64>,
-    refusals: BTreeMap<&'static str, [u64; 12]>,
+    refusals: BTreeMap<&'static str, [u64; 15]>,
 }
 
 impl Tally {
@@ -65,11 +68,13 @@ impl Tally {
 
     fn print_refusals(&self) {
         print!("{:<12}", "answers");
-        (0..10).for_each(|refusal| print!(" {:>8}", format!("no. {refusal}")));
+        ANSWERS
+            .iter()
+            .for_each(|refusal| print!(" {:>8}", format!("no. {refusal}")));
         println!();
         for (call, counts) in &self.refusals {
             print!("{call:<12}");
-            counts[..10].iter().for_each(|count| print!(" {count:>8}"));
+            ANSWERS.iter().for_each(|refusal| print!(" {:>8}", counts[*refusal]));
             println!();
         }
     }

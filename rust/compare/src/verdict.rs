@@ -1,7 +1,7 @@
 //! What one comparison found.
 
 use crate::lent::Output;
-use reference::Answer;
+use reference::{Answer, Shape};
 
 /// The differences from bio that are meant to be, as docs/DIFFERENCES.md lists them.
 #[derive(Clone, Copy, Debug, PartialEq, Eq, PartialOrd, Ord)]
@@ -104,6 +104,13 @@ impl Verdict {
         self.whole("table", u64::from(ours.table), u64::from(theirs.table));
         self.whole("place", ours.place as u64, theirs.place as u64);
         self.number("value", ours.value, theirs.value);
+    }
+
+    /// Compares two shapes.
+    pub fn shape(&mut self, ours: Shape, theirs: Shape) {
+        self.whole("states", ours.states as u64, theirs.states as u64);
+        self.whole("symbols", ours.symbols as u64, theirs.symbols as u64);
+        self.whole("end state", u64::from(ours.ends), u64::from(theirs.ends));
     }
 
     /// Compares the whole of two lent outputs, surplus included.

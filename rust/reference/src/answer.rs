@@ -13,8 +13,10 @@ pub const UNKNOWN_SYMBOL: u8 = 8;
 pub const ZERO_MASS: u8 = 9;
 pub const NEGATIVE_DIFFERENCE: u8 = 10;
 pub const OVERSHOOT: u8 = 11;
+pub const BAD_LAYOUT: u8 = 13;
+pub const BAD_SUM: u8 = 14;
 
-/// The numbers of what is lent; outputs are numbered from 5 in the order of the arguments.
+/// The numbers of what is lent; what else a call is lent is numbered from 5 in the order of the arguments.
 pub const TRANSITION: u8 = 0;
 pub const EMISSION: u8 = 1;
 pub const INITIAL: u8 = 2;

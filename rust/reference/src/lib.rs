@@ -10,6 +10,7 @@ pub mod kernels;
 pub mod leaves;
 pub mod likelihood;
 pub mod model;
+pub mod model_file;
 pub mod sums;
 pub mod viterbi;
 
@@ -17,4 +18,5 @@ pub use answer::Answer;
 pub use baum_welch::{baum_welch, Estimates};
 pub use likelihood::{backward, forward};
 pub use model::{Model, Shape};
+pub use model_file::{file_length, read_model, write_model, Reading, Tables};
 pub use viterbi::viterbi;

@@ -11,7 +11,7 @@ pub const MOST_SYMBOLS: usize = 256;
 pub const MOST_SAMPLES: usize = 4096;
 
 /// How many states and symbols there are, and whether there is an end state.
-#[derive(Clone, Copy, Debug)]
+#[derive(Clone, Copy, Debug, PartialEq, Eq)]
 pub struct Shape {
     pub states: usize,
     pub symbols: usize,
@@ -22,6 +22,16 @@ impl Shape {
     /// The length of a table with a row for each of T samples. It saturates, since the checks may still be to come.
     pub fn cells(&self, samples: usize) -> usize {
         samples.saturating_mul(self.states)
+    }
+
+    /// The lengths of the four tables by number, of a shape that 1 and 2 let pass.
+    pub fn lengths(&self) -> [usize; 4] {
+        [
+            self.states * self.states,
+            self.states * self.symbols,
+            self.states,
+            self.states,
+        ]
     }
 }
 
@@ -73,20 +83,28 @@ pub fn check<const N: usize>(
     empty: Empty,
     outputs: impl FnOnce() -> [Output; N],
 ) -> Option<Answer> {
-    check_sizes(model.shape, samples.len(), empty)
+    check_shape(model.shape)
+        .or_else(|| check_number(samples.len(), empty))
         .or_else(|| check_tables(model))
-        .or_else(|| check_outputs(&outputs()))
+        .or_else(|| check_outputs(FIRST_OUTPUT, &outputs()))
         .or_else(|| check_entries(model))
         .or_else(|| check_samples(model.shape, samples))
 }
 
-/// Refusals 1 to 4.
-fn check_sizes(shape: Shape, length: usize, empty: Empty) -> Option<Answer> {
+/// Refusals 1 and 2.
+pub(crate) fn check_shape(shape: Shape) -> Option<Answer> {
     if !(1..=MOST_STATES).contains(&shape.states) {
         Some(Answer::refused(BAD_STATES, 0, shape.states))
     } else if !(1..=MOST_SYMBOLS).contains(&shape.symbols) {
         Some(Answer::refused(BAD_SYMBOLS, 0, shape.symbols))
-    } else if length > MOST_SAMPLES {
+    } else {
+        None
+    }
+}
+
+/// Refusals 3 and 4.
+fn check_number(length: usize, empty: Empty) -> Option<Answer> {
+    if length > MOST_SAMPLES {
         Some(Answer::refused(TOO_MANY_SAMPLES, SAMPLES, length))
     } else if length == 0 && empty == Empty::Refused {
         Some(Answer::refused(NO_SAMPLES, SAMPLES, 0))
@@ -97,17 +115,15 @@ fn check_sizes(shape: Shape, length: usize, empty: Empty) -> Option<Answer> {
 
 /// Refusal 5, tables by number.
 fn check_tables(model: &Model) -> Option<Answer> {
-    let Shape { states, symbols, .. } = model.shape;
-    let lengths = [states * states, states * symbols, states, states];
     (0..)
-        .zip(model.tables().iter().zip(lengths))
+        .zip(model.tables().iter().zip(model.shape.lengths()))
         .find(|(_, (table, length))| table.len() != *length)
         .map(|(number, (table, _))| Answer::refused(WRONG_LENGTH, number, table.len()))
 }
 
-/// Refusal 6, outputs by number.
-fn check_outputs(outputs: &[Output]) -> Option<Answer> {
-    (FIRST_OUTPUT..)
+/// Refusal 6, outputs by number from the first one's.
+pub(crate) fn check_outputs(first: u8, outputs: &[Output]) -> Option<Answer> {
+    (first..)
         .zip(outputs)
         .find(|(_, output)| output.length < output.needed)
         .map(|(number, output)| Answer::refused(OUTPUT_TOO_SHORT, number, output.length))
@@ -132,9 +148,14 @@ fn check_entries(model: &Model) -> Option<Answer> {
         .find_map(|(table, place)| place.map(|place| Answer::refused(NOT_GOOD, table, place)))
 }
 
-/// The place of the first entry that is NaN or above 0.
+/// The place of the first entry that is not good.
 fn first_not_good(table: &[f64]) -> Option<usize> {
-    table.iter().position(|entry| entry.is_nan() || *entry > 0.0)
+    table.iter().position(|entry| is_not_good(*entry))
+}
+
+/// Whether an entry is NaN or above 0.
+pub(crate) fn is_not_good(entry: f64) -> bool {
+    entry.is_nan() || entry > 0.0
 }
 
 /// Refusal 8.

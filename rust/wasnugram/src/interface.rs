@@ -22,6 +22,14 @@ pub struct Answer {
     pub value: f64,
 }
 
+/// What the reader of a model file gives: the answer, and the file's shape beside it.
+#[repr(C)]
+#[derive(Clone, Copy)]
+pub struct Reading {
+    pub answer: Answer,
+    pub shape: Shape,
+}
+
 #[rustfmt::skip]
 extern "C" {
     pub fn wasnugram_viterbi(
@@ -70,6 +78,25 @@ extern "C" {
         alpha: *mut f64, alpha_length: usize,
         beta: *mut f64, beta_length: usize,
     ) -> Answer;
+
+    pub fn wasnugram_read_model(
+        file: *const u8, file_length: usize,
+        transition: *mut f64, transition_length: usize,
+        emission: *mut f64, emission_length: usize,
+        initial: *mut f64, initial_length: usize,
+        end: *mut f64, end_length: usize,
+    ) -> Reading;
+
+    pub fn wasnugram_write_model(
+        shape: Shape,
+        transition: *const f64, transition_length: usize,
+        emission: *const f64, emission_length: usize,
+        initial: *const f64, initial_length: usize,
+        end: *const f64, end_length: usize,
+        file: *mut u8, file_length: usize,
+    ) -> Answer;
+
+    pub fn wasnugram_model_file_length(shape: Shape) -> usize;
 
     pub fn wasnugram_exp(d: f64) -> Answer;
     pub fn wasnugram_ln(x: f64) -> Answer;

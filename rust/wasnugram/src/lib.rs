@@ -1,4 +1,5 @@
-//! A safe face of the proved library: slices in, a value or a refusal out. It needs neither std nor a heap.
+//! A safe face of the proved library: slices in, a value or a refusal out. It needs neither std nor a heap; the feature
+//! `alloc` adds `OwnedModel` and `model_file`, for a host that has one.
 //!
 //! Every call answers for all inputs (docs/RULES.md, section 3). A refusal names its cause, the table and the place in
 //! it, and leaves all memory alone; only a training pass that meets zero mass clears its scratch. Every length counts
@@ -32,15 +33,24 @@
 //! }
 //! ```
 //!
+//! A model is stored as a file in which no single flipped bit passes: [`write_model`] writes it, [`read_model`] reads it
+//! into lent tables. Of damage to the tables after that, a call refuses an entry that is NaN or above zero, no other.
+//!
 //! The wrapper and the archive that it links are of one version. Both are for x86-64 with SSE2 and System V's calls, and
 //! for the floating-point environment that a process starts with: rounding to nearest, subnormal numbers kept.
 
 #![no_std]
 #![deny(missing_docs)]
 
+#[cfg(feature = "alloc")]
+extern crate alloc;
+
 mod interface;
 mod leaves;
 mod model;
+mod model_file;
+#[cfg(feature = "alloc")]
+mod owned;
 pub mod raw;
 mod refusal;
 mod walks;
@@ -48,6 +58,9 @@ mod walks;
 pub use leaves::{
     cap_numerical_overshoot, exp, ln, ln_add_exp, ln_cumsum_exp, ln_one_minus_exp, ln_sub_exp, ln_sum_exp,
 };
-pub use model::{Estimates, Model, Shape, MOST_SAMPLES, MOST_STATES, MOST_SYMBOLS};
+pub use model::{Estimates, Model, Shape, Tables, MOST_SAMPLES, MOST_STATES, MOST_SYMBOLS};
+pub use model_file::{read_model, write_model};
+#[cfg(feature = "alloc")]
+pub use owned::{model_file, OwnedModel};
 pub use refusal::{Refusal, Refused, Table};
 pub use walks::{backward, baum_welch, forward, is_possible, viterbi, Decoded};

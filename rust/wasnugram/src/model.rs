@@ -1,4 +1,6 @@
-//! What is lent: a model's shape and tables, and what a training pass writes.
+//! What is lent: a model's shape and tables, and what a training pass and the reader of a model file write.
+
+use crate::raw;
 
 /// The most states that a call takes.
 pub const MOST_STATES: usize = 64;
@@ -42,6 +44,21 @@ impl Shape {
     /// The entries of a table with a row for each of T samples, as `values`, `from`, `alpha` and `beta` have: T·S.
     pub const fn cells(self, samples: usize) -> usize {
         samples.saturating_mul(self.states)
+    }
+
+    /// The bytes of a model file of this shape; 0 where no model has this shape.
+    ///
+    /// ```
+    /// use wasnugram::Shape;
+    ///
+    /// let gate = Shape { states: 12, symbols: 256, ends: false };
+    /// assert_eq!(gate.file_length(), 25_880);
+    /// // An end state has an entry of 16 bytes in the contents, and a body of a word for each state.
+    /// assert_eq!(Shape { ends: true, ..gate }.file_length(), 25_880 + 16 + 8 * 12);
+    /// assert_eq!(Shape { states: 65, ..gate }.file_length(), 0);
+    /// ```
+    pub fn file_length(self) -> usize {
+        raw::file_length(self)
     }
 }
 
@@ -101,4 +118,17 @@ pub struct Estimates<'a> {
     pub alpha: &'a mut [f64],
     /// Output 10, scratch: T·S entries.
     pub beta: &'a mut [f64],
+}
+
+/// What the reader of a model file writes: the four tables. Each may be longer than the file's model needs.
+#[derive(Debug)]
+pub struct Tables<'a> {
+    /// Output 6: S·S entries.
+    pub transition: &'a mut [f64],
+    /// Output 7: S·M entries.
+    pub emission: &'a mut [f64],
+    /// Output 8: S entries.
+    pub initial: &'a mut [f64],
+    /// Output 9: S entries. Without an end state the reader makes each +0.0.
+    pub end: &'a mut [f64],
 }

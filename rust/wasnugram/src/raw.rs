@@ -16,12 +16,34 @@
 //! assert_eq!((done.refusal, done.table, done.place, done.value), (0, 0, 0, -7.0));
 //! let refused = raw::forward(&model, &[], &mut values);
 //! assert_eq!((refused.refusal, refused.table, refused.place, refused.value), (4, 4, 0, f64::NEG_INFINITY));
+//!
+//! let mut file = [0; 136];
+//! let written = raw::write_model(&model, &mut file);
+//! assert_eq!((written.refusal, written.table, written.place, written.value), (0, 0, 0, 0.0));
+//! let mut tables = wasnugram::Tables {
+//!     transition: &mut [0.0; 4],
+//!     emission: &mut [0.0; 4],
+//!     initial: &mut [0.0; 2],
+//!     end: &mut [0.0; 2],
+//! };
+//! let reading = raw::read_model(&file, &mut tables);
+//! assert_eq!((reading.answer.refusal, reading.answer.value, reading.shape), (0, 0.0, model.shape));
+//! assert_eq!(tables.emission, model.emission);
 //! ```
 
 use crate::interface as c;
-use crate::{Estimates, Model, Shape};
+use crate::{Estimates, Model, Shape, Tables};
 
 pub use c::Answer;
+
+/// What [`read_model`] gives.
+#[derive(Clone, Copy, Debug)]
+pub struct Reading {
+    /// The answer. Its value is +0.0 where the file was read.
+    pub answer: Answer,
+    /// The file's shape; on a refusal 0 states, 0 symbols and no end state.
+    pub shape: Shape,
+}
 
 impl From<Shape> for c::Shape {
     fn from(shape: Shape) -> Self {
@@ -33,11 +55,22 @@ impl From<Shape> for c::Shape {
     }
 }
 
-/// Calls a function of the library with the model and the samples, then each further slice as a pointer and a length.
+impl From<c::Shape> for Shape {
+    fn from(shape: c::Shape) -> Self {
+        Shape {
+            states: shape.states,
+            symbols: shape.symbols,
+            ends: shape.ends != 0,
+        }
+    }
+}
+
+/// Calls a function of the library with the model and the samples, if it takes any, then each output as a pointer and a
+/// length.
 /// Safe: every pointer comes from a slice with its length, and Rust's borrows keep the written ones apart from all
 /// others for the time of the call.
 macro_rules! call {
-    ($function:ident, $model:expr, $samples:expr, $($output:expr),*) => {{
+    ($function:ident, $model:expr $(, $samples:expr)?; $($output:expr),*) => {{
         let model = $model;
         unsafe {
             c::$function(
@@ -50,8 +83,7 @@ macro_rules! call {
                 model.initial.len(),
                 model.end.as_ptr(),
                 model.end.len(),
-                $samples.as_ptr(),
-                $samples.len(),
+                $($samples.as_ptr(), $samples.len(),)?
                 $($output.as_mut_ptr(), $output.len()),*
             )
         }
@@ -60,17 +92,17 @@ macro_rules! call {
 
 /// As [`viterbi`](crate::viterbi) of this crate.
 pub fn viterbi(model: &Model, samples: &[u16], path: &mut [u8], values: &mut [f64], from: &mut [u8]) -> Answer {
-    call!(wasnugram_viterbi, model, samples, path, values, from)
+    call!(wasnugram_viterbi, model, samples; path, values, from)
 }
 
 /// As [`forward`](crate::forward) of this crate.
 pub fn forward(model: &Model, samples: &[u16], values: &mut [f64]) -> Answer {
-    call!(wasnugram_forward, model, samples, values)
+    call!(wasnugram_forward, model, samples; values)
 }
 
 /// As [`backward`](crate::backward) of this crate.
 pub fn backward(model: &Model, samples: &[u16], values: &mut [f64]) -> Answer {
-    call!(wasnugram_backward, model, samples, values)
+    call!(wasnugram_backward, model, samples; values)
 }
 
 /// As [`baum_welch`](crate::baum_welch) of this crate.
@@ -78,7 +110,7 @@ pub fn baum_welch(model: &Model, samples: &[u16], new: &mut Estimates) -> Answer
     call!(
         wasnugram_baum_welch,
         model,
-        samples,
+        samples;
         new.new_transition,
         new.new_emission,
         new.new_initial,
@@ -86,6 +118,39 @@ pub fn baum_welch(model: &Model, samples: &[u16], new: &mut Estimates) -> Answer
         new.alpha,
         new.beta
     )
+}
+
+/// As [`read_model`](crate::read_model) of this crate. Safe as the calls on a model are: every pointer comes from a slice
+/// with its length, and Rust's borrows keep the written ones apart from all others.
+pub fn read_model(file: &[u8], tables: &mut Tables) -> Reading {
+    let reading = unsafe {
+        c::wasnugram_read_model(
+            file.as_ptr(),
+            file.len(),
+            tables.transition.as_mut_ptr(),
+            tables.transition.len(),
+            tables.emission.as_mut_ptr(),
+            tables.emission.len(),
+            tables.initial.as_mut_ptr(),
+            tables.initial.len(),
+            tables.end.as_mut_ptr(),
+            tables.end.len(),
+        )
+    };
+    Reading {
+        answer: reading.answer,
+        shape: reading.shape.into(),
+    }
+}
+
+/// As [`write_model`](crate::write_model) of this crate.
+pub fn write_model(model: &Model, file: &mut [u8]) -> Answer {
+    call!(wasnugram_write_model, model; file)
+}
+
+/// As [`Shape::file_length`].
+pub(crate) fn file_length(shape: Shape) -> usize {
+    unsafe { c::wasnugram_model_file_length(shape.into()) }
 }
 
 /// As [`exp`](crate::exp) of this crate.

@@ -31,6 +31,10 @@ pub enum Refusal {
     NegativeDifference = 10,
     /// A value is further above 0 than the epsilon, or one of them is NaN.
     Overshoot = 11,
+    /// A model file has another layout than its shape demands.
+    BadLayout = 13,
+    /// A sum in a model file is not that of its table.
+    BadSum = 14,
 }
 
 impl Refusal {
@@ -64,12 +68,15 @@ impl Refusal {
             9 => Refusal::ZeroMass,
             10 => Refusal::NegativeDifference,
             11 => Refusal::Overshoot,
+            13 => Refusal::BadLayout,
+            14 => Refusal::BadSum,
             _ => return None,
         })
     }
 }
 
-/// What was lent, by its number: tables 0 to 3, the samples 4, the outputs from 5 in the order of the arguments.
+/// What was lent, by its number: tables 0 to 3, the samples 4, the outputs from 5 in the order of the arguments. The
+/// reader of a model file is lent the file as number 5, and its outputs follow.
 #[derive(Clone, Copy, Debug, PartialEq, Eq, Hash)]
 pub enum Table {
     /// Table 0.
@@ -138,7 +145,8 @@ impl fmt::Display for Table {
 /// A refusal, the table it speaks of, if any, and the place.
 ///
 /// The place is the first index that is at fault, or the length where lengths are (5 and 6), or the number of states,
-/// symbols or samples (1, 2 and 3), or the state without mass, S for the whole (9); in a sum or a kernel it is the
+/// symbols or samples (1, 2 and 3), or the state without mass, S for the whole (9), or the first wrong byte of a model
+/// file, the shorter length where bytes are missing or left over (13), or 0 (14); in a sum or a kernel it is the
 /// argument's number from 0, or the index in the slice.
 ///
 /// ```
@@ -153,18 +161,19 @@ impl fmt::Display for Table {
 pub struct Refused {
     /// The cause.
     pub refusal: Refusal,
-    /// What was lent and is at fault; none for a number, a state or an argument.
+    /// What was lent and is at fault, or which table of a model file is; none for a number, a state, an argument or the
+    /// file's layout.
     pub table: Option<Table>,
     /// Where.
     pub place: usize,
 }
 
 impl Refused {
-    /// A walk names a table in every refusal but those of sizes and of mass.
-    pub(crate) fn of_walk(answer: Answer) -> Refused {
+    /// A call on a model or a file names a table in every refusal but those of sizes, of mass and of the file's layout.
+    pub(crate) fn of_model(answer: Answer) -> Refused {
         let refused = Refused::of_leaf(answer);
         match refused.refusal {
-            Refusal::BadStates | Refusal::BadSymbols | Refusal::ZeroMass => refused,
+            Refusal::BadStates | Refusal::BadSymbols | Refusal::ZeroMass | Refusal::BadLayout => refused,
             _ => Refused {
                 table: Some(Table::from_number(answer.table)),
                 ..refused
@@ -197,6 +206,8 @@ impl Refused {
             (Refusal::ZeroMass, _) => write!(f, "no mass at place {place}: a state, or their number for the whole"),
             (Refusal::NegativeDifference, _) => write!(f, "the difference is below zero"),
             (Refusal::Overshoot, _) => write!(f, "a value too far above zero, or NaN"),
+            (Refusal::BadLayout, _) => write!(f, "the model file is wrong from byte {place} on, or ends there"),
+            (Refusal::BadSum, Some(table)) => write!(f, "the sum of {table} in the model file is wrong"),
             (_, None) => write!(f, "place {place} of the arguments is NaN or outside its domain"),
         }
     }

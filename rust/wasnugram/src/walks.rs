@@ -6,7 +6,7 @@ use crate::{Estimates, Model, Refused};
 fn result(answer: Answer) -> Result<f64, Refused> {
     match answer.refusal {
         0 => Ok(answer.value),
-        _ => Err(Refused::of_walk(answer)),
+        _ => Err(Refused::of_model(answer)),
     }
 }
 

@@ -1,14 +1,16 @@
-//! `freeze FILE`: writes the frozen list (FROZEN.md), after holding each of its answers that bio can give against bio's.
+//! `freeze FILE`: writes the frozen list (FROZEN.md), after holding each of its answers that bio can give against bio's,
+//! and those on model files against the rule on bytes.
 
 use compare::case::{self, Case, Kind, Sizes};
 use compare::damage;
 use compare::engine::REFERENCE;
 use compare::entries;
-use compare::frozen::{write, Frozen, FILL, NAMES};
+use compare::frozen::{write, Frozen, FILL, FILLED, NAMES};
 use compare::grids;
 use compare::leaves::{argument, near, slice};
 use compare::lent::{Call, Output, CALLS};
 use compare::likeness;
+use compare::model_file::{self, Lent};
 use compare::random::Random;
 use compare::verdict::Verdict;
 use oracle::Modes;
@@ -60,6 +62,7 @@ fn main() -> ExitCode {
     list.leaves();
     list.grids();
     list.entries();
+    list.model_files();
     list.altered();
     println!("{} cases", list.cases.len());
     match std::fs::write(&path, write(&list.cases)) {
@@ -79,10 +82,10 @@ struct List {
 
 /// An output of this length, filled.
 fn filled(call: Call, place: usize, length: usize) -> Output {
-    if call == Call::Viterbi && place != 1 {
+    if call.writes_bytes(place) {
         Output::Bytes(vec![FILL; length])
     } else {
-        Output::Numbers(vec![f64::from_bits(u64::from_le_bytes([FILL; 8])); length])
+        Output::Numbers(vec![FILLED; length])
     }
 }
 
@@ -103,13 +106,14 @@ impl List {
         self.cases.push(Frozen::of_model(call, case, &answer, &outputs));
     }
 
-    /// Holds a case against bio.
+    /// Holds a case against bio, which has no model file: what is written is held against the rule on bytes.
     fn agrees(&self, call: Call, case: &Case) {
         let verdict = match call {
             Call::Viterbi => likeness::viterbi(&self.modes.published, case),
             Call::Forward => likeness::forward(&self.modes.kernels, case),
             Call::Backward => likeness::backward(&self.modes.kernels, case),
             Call::BaumWelch => likeness::pass(&self.modes.kernels, case),
+            Call::WriteModel => model_file::written_by_the_rule(&REFERENCE, case),
         };
         must_agree(call.name(), &verdict);
         if call == Call::Viterbi && case.shape.ends {
@@ -202,16 +206,21 @@ impl List {
                 ..zeros(1)
             };
             self.freeze(call, &too_many, &call.needed(&zeros(1)));
-            for refusal in damage::refusals(call).flat_map(|refusal| [refusal; 4]) {
-                let sizes = Sizes {
-                    states: 1 + self.random.below(3),
-                    symbols: 1 + self.random.below(3),
-                    samples: 1 + self.random.below(4),
-                };
-                let case = case::any(sizes, &mut self.random);
-                let damaged = damage::single(refusal, call, &case, &mut self.random);
-                self.damaged_call(call, &case, &damaged);
-            }
+            self.refusals(call);
+        }
+    }
+
+    /// Every refusal that damage to a model leads to in a call, several times.
+    fn refusals(&mut self, call: Call) {
+        for refusal in damage::refusals(call).flat_map(|refusal| [refusal; 4]) {
+            let sizes = Sizes {
+                states: 1 + self.random.below(3),
+                symbols: 1 + self.random.below(3),
+                samples: 1 + self.random.below(4),
+            };
+            let case = case::any(sizes, &mut self.random);
+            let damaged = damage::single(refusal, call, &case, &mut self.random);
+            self.damaged_call(call, &case, &damaged);
         }
     }
 
@@ -296,6 +305,31 @@ impl List {
         }
     }
 
+    /// Model files: read, written, and their lengths.
+    fn model_files(&mut self) {
+        for lent in model_file::to_freeze(&model_p(), &mut self.random) {
+            self.reading(&lent);
+        }
+        for (case, surplus) in model_file::models_to_freeze(&model_p(), &mut self.random) {
+            self.call(Call::WriteModel, &case, surplus);
+        }
+        self.refusals(Call::WriteModel);
+        for (case, length) in model_file::refused_to_freeze(&model_p()) {
+            self.freeze(Call::WriteModel, &case, &[length]);
+        }
+        for shape in model_file::lengths_to_freeze() {
+            must_agree("file_length", &model_file::length_by_the_rule(&REFERENCE, shape));
+            self.cases.push(Frozen::of_length(shape, reference::file_length(shape)));
+        }
+    }
+
+    /// Freezes the reading of a file, after holding it against the rule on bytes.
+    fn reading(&mut self, lent: &Lent) {
+        must_agree("read_model", &model_file::by_the_rule(&REFERENCE, lent));
+        let left = lent.read_by(&REFERENCE);
+        self.cases.push(Frozen::of_reading(lent, &left));
+    }
+
     /// The first case of each call that is done, with one fault at a time.
     fn altered(&mut self) {
         let is_done = |case: &&Frozen| case.answer[0] == u64::from(DONE);
@@ -334,7 +368,7 @@ impl List {
             leaves::phred_of_log(x),
             leaves::log_of_phred(x),
         ];
-        for (name, answer) in NAMES[12..].iter().zip(&answers) {
+        for (name, answer) in NAMES[12..18].iter().zip(&answers) {
             self.cases.push(Frozen::of_leaf(name, &[x], answer, None));
         }
     }
@@ -342,7 +376,7 @@ impl List {
     /// Cumulative sums into an output with surplus, and into one that is too short.
     fn cumulative(&mut self, xs: &[f64]) {
         for length in [Some(xs.len() + 2), xs.len().checked_sub(1)].into_iter().flatten() {
-            let mut output = vec![f64::from_bits(u64::from_le_bytes([FILL; 8])); length];
+            let mut output = vec![FILLED; length];
             let answer = leaves::ln_cumsum_exp(xs, &mut output);
             self.cases.push(Frozen::of_leaf(NAMES[10], xs, &answer, Some(&output)));
         }
@@ -351,7 +385,7 @@ impl List {
 
 fn must_agree(what: &str, verdict: &Verdict) {
     if let Some(text) = &verdict.wrong {
-        panic!("{what} differs from bio: {text}");
+        panic!("{what} differs: {text}");
     }
 }
 

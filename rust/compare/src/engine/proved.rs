@@ -1,9 +1,9 @@
 //! The proved library, by its raw calls.
 
-use super::{estimates, Engine, Leaves};
+use super::{estimates, Engine, Leaves, ModelFile};
 use crate::case::Case;
 use crate::lent::{Call, Output};
-use reference::Answer;
+use reference::{Answer, Reading, Shape, Tables};
 use wasnugram::raw;
 
 pub const LIBRARY: Engine = Engine {
@@ -18,6 +18,10 @@ pub const LIBRARY: Engine = Engine {
         ln_sum_exp: |probs| answer(raw::ln_sum_exp(probs)),
         ln_cumsum_exp: |probs, sums| answer(raw::ln_cumsum_exp(probs, sums)),
     },
+    model_file: ModelFile {
+        read,
+        length: |shape| lent_shape(shape).file_length(),
+    },
 };
 
 fn answer(given: raw::Answer) -> Answer {
@@ -30,7 +34,7 @@ fn answer(given: raw::Answer) -> Answer {
 }
 
 fn call(call: Call, case: &Case, outputs: &mut [Output]) -> Answer {
-    let model = model(case);
+    let model = lent_model(case);
     answer(match (call, outputs) {
         (Call::Viterbi, [Output::Bytes(path), Output::Numbers(values), Output::Bytes(from)]) => {
             raw::viterbi(&model, &case.samples, path, values, from)
@@ -38,17 +42,40 @@ fn call(call: Call, case: &Case, outputs: &mut [Output]) -> Answer {
         (Call::Forward, [Output::Numbers(values)]) => raw::forward(&model, &case.samples, values),
         (Call::Backward, [Output::Numbers(values)]) => raw::backward(&model, &case.samples, values),
         (Call::BaumWelch, outputs) => raw::baum_welch(&model, &case.samples, &mut lent(outputs)),
+        (Call::WriteModel, [Output::Bytes(file)]) => raw::write_model(&model, file),
         _ => unreachable!("each call is lent its own outputs"),
     })
 }
 
-fn model(case: &Case) -> wasnugram::Model<'_> {
-    wasnugram::Model {
-        shape: wasnugram::Shape {
-            states: case.shape.states,
-            symbols: case.shape.symbols,
-            ends: case.shape.ends,
+fn read(file: &[u8], tables: &mut Tables) -> Reading {
+    let mut lent = wasnugram::Tables {
+        transition: tables.transition,
+        emission: tables.emission,
+        initial: tables.initial,
+        end: tables.end,
+    };
+    let given = raw::read_model(file, &mut lent);
+    Reading {
+        answer: answer(given.answer),
+        shape: Shape {
+            states: given.shape.states,
+            symbols: given.shape.symbols,
+            ends: given.shape.ends,
         },
+    }
+}
+
+fn lent_shape(shape: Shape) -> wasnugram::Shape {
+    wasnugram::Shape {
+        states: shape.states,
+        symbols: shape.symbols,
+        ends: shape.ends,
+    }
+}
+
+fn lent_model(case: &Case) -> wasnugram::Model<'_> {
+    wasnugram::Model {
+        shape: lent_shape(case.shape),
         transition: &case.transition,
         emission: &case.emission,
         initial: &case.initial,
