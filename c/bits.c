@@ -6,9 +6,11 @@
 #include <stdlib.h>
 #include <string.h>
 #include "wasnugram.h"
+#include "layout.h"
+#include "random.h"
 
-enum { CASES = 200000, ARENA = 4096, OUTPUT = 5, BUFFERS = 11, REFUSALS = 12 };
-enum call { VITERBI, FORWARD, BACKWARD, BAUM_WELCH, LN_SUM_EXP, LN_CUMSUM_EXP, CALLS };
+enum { CASES = 250000, ARENA = 4096, OUTPUT = 5, BUFFERS = 11, REFUSALS = 15 };
+enum call { VITERBI, FORWARD, BACKWARD, BAUM_WELCH, WRITE_MODEL, READ_MODEL, LN_SUM_EXP, LN_CUMSUM_EXP, CALLS };
 
 /* The refusals that each call has to meet, done among them. */
 static const struct {
@@ -19,6 +21,8 @@ static const struct {
     [FORWARD] = { "forward", 0x1ff },
     [BACKWARD] = { "backward", 0x1ef },
     [BAUM_WELCH] = { "baum_welch", 0x3ff },
+    [WRITE_MODEL] = { "write_model", 0xe7 },
+    [READ_MODEL] = { "read_model", 0x60c7 },
     [LN_SUM_EXP] = { "ln_sum_exp", 0x81 },
     [LN_CUMSUM_EXP] = { "ln_cumsum_exp", 0xc1 },
 };
@@ -33,20 +37,6 @@ static _Alignas(8) unsigned char arena[ARENA], before[ARENA];
 static size_t used;
 static wasnugram_shape shape;
 static size_t samples_length;
-
-/* Marsaglia's xorshift, from a fixed seed. */
-static uint64_t state = 20240101;
-
-static uint64_t random_bits(void) {
-    state ^= state << 13;
-    state ^= state >> 7;
-    state ^= state << 17;
-    return state;
-}
-
-static size_t below(size_t n) {
-    return (size_t)((random_bits() >> 11) % n);
-}
 
 /* Sets a buffer out after a gap. */
 static void place(size_t number, size_t entry, size_t length, size_t needed) {
@@ -69,42 +59,42 @@ static void place_outputs(enum call call, size_t states, size_t symbols, size_t 
         place_output(OUTPUT + 2, 1, cells);
     } else if (call == BAUM_WELCH) {
         for (size_t i = 0; i < 6; i++) place_output(OUTPUT + i, sizeof(double), pass[i]);
+    } else if (call == WRITE_MODEL) {
+        place_output(OUTPUT, 1, WASNUGRAM_MODEL_FILE(states, symbols, shape.ends));
     } else {
         place_output(OUTPUT, sizeof(double), cells);
     }
-}
-
-/* A number's bits at most 0 and not NaN: minus infinity now and then. */
-static uint64_t good_bits(void) {
-    uint64_t bits = random_bits() | UINT64_C(1) << 63, infinity = UINT64_C(0xfff0000000000000);
-    if (below(16) == 0) return infinity;
-    return (bits & infinity) == infinity ? bits ^ UINT64_C(1) << 52 : bits;
 }
 
 static void *at(size_t number, size_t i) {
     return arena + buffers[number].start + i * buffers[number].entry;
 }
 
-static void set_word(size_t number, size_t i, uint64_t bits) {
+#define LENT(number) at(number, 0), buffers[number].length
+
+static void set_buffer(size_t number, size_t i, uint64_t bits) {
     memcpy(at(number, i), &bits, buffers[number].entry);
 }
 
 /* Makes every entry of a table good. */
 static void repair(size_t number) {
     int is_zero = number == WASNUGRAM_END && !shape.ends;
-    for (size_t i = 0; i < buffers[number].length; i++) set_word(number, i, is_zero ? 0 : good_bits());
+    for (size_t i = 0; i < buffers[number].length; i++) set_buffer(number, i, is_zero ? 0 : good_bits());
 }
 
 static void repair_model(void) {
     for (size_t number = 0; number < 4; number++) repair(number);
-    for (size_t i = 0; i < buffers[4].length; i++) set_word(4, i, below(shape.symbols));
+    for (size_t i = 0; i < buffers[4].length; i++) set_buffer(4, i, below(shape.symbols));
 }
 
-/* An entry of random bits, half of them a NaN with a payload of its own. */
-static void damage(size_t number) {
-    if (buffers[number].length == 0) return;
+/* Random bits, half of them a NaN with a payload of its own. */
+static uint64_t bad_bits(void) {
     uint64_t bits = random_bits();
-    set_word(number, below(buffers[number].length), below(2) ? bits : bits | UINT64_C(0x7ff0000000000001));
+    return below(2) ? bits : bits | UINT64_C(0x7ff0000000000001);
+}
+
+static void damage(size_t number) {
+    if (buffers[number].length) set_buffer(number, below(buffers[number].length), bad_bits());
 }
 
 /* What is wrong with a case on a model, by the number of the refusal that it asks for. */
@@ -118,24 +108,53 @@ static void spoil(unsigned fault) {
     case 6: buffers[output].length = buffers[output].needed ? below(buffers[output].needed) : 0; break;
     case 7: damage(table); break;
     case 8: damage(4); break;
-    case 9: for (size_t i = 0; i < buffers[2].length; i++) set_word(2, i, UINT64_C(0xfff0000000000000));
+    case 9: for (size_t i = 0; i < buffers[2].length; i++) set_buffer(2, i, UINT64_C(0xfff0000000000000));
     }
+}
+
+/* The tables of a model of some shape, and samples. */
+static void place_model(size_t samples) {
+    size_t states = 1 + below(4), symbols = 1 + below(5);
+    shape = (wasnugram_shape){ states, symbols, (uint8_t)(below(2) ? random_bits() : 0) };
+    samples_length = samples;
+    for (size_t i = 0; i < 4; i++) place(i, sizeof(double), words_in(shape, i), 0);
+    place(4, sizeof(uint16_t), samples, 0);
 }
 
 /* A case on a model: random bits, repaired and then spoilt, or left as they are. */
 static void set_model(enum call call) {
-    size_t states = 1 + below(4), symbols = 1 + below(5), samples = below(8);
     unsigned fault = (unsigned)below(12);
-    shape = (wasnugram_shape){ states, symbols, (uint8_t)(below(2) ? random_bits() : 0) };
-    samples_length = fault == 4 ? 0 : samples;
-    place(0, sizeof(double), WASNUGRAM_MODEL_TRANSITION(states), 0);
-    place(1, sizeof(double), WASNUGRAM_MODEL_EMISSION(states, symbols), 0);
-    place(2, sizeof(double), WASNUGRAM_MODEL_INITIAL(states), 0);
-    place(3, sizeof(double), WASNUGRAM_MODEL_END(states), 0);
-    place(4, sizeof(uint16_t), samples_length, 0);
-    place_outputs(call, states, symbols, samples_length);
+    place_model(fault == 4 ? 0 : below(8));
+    place_outputs(call, shape.states, shape.symbols, samples_length);
     if (fault != 11) repair_model();
     spoil(fault);
+}
+
+/* What is wrong with a model file, or with the tables that it is read into, by the number of the refusal that it asks for; 12 cuts it. */
+static void spoil_file(unsigned fault) {
+    uint8_t *file = at(OUTPUT, 0);
+    size_t table = below(tables_in(shape)), output = OUTPUT + 1 + below(4), body = body_offset(shape, 0), length = buffers[OUTPUT].length;
+    switch (fault) {
+    case 1: file[0] = 0, file[1] = (uint8_t)below(256); break;
+    case 2: file[2] = 0, file[3] = (uint8_t)below(256); break;
+    case 6: buffers[output].length = below(buffers[output].needed); break;
+    case 7: set_entry(file, shape, table, below(words_in(shape, table)), bad_bits()); break;
+    case 12: buffers[OUTPUT].length = below(length); break;
+    case 13: file[4 + below(4)] ^= 1 << below(8); break;
+    case 14: file[body + below(length - body)] ^= 1 << below(8);
+    }
+}
+
+/* A case on a model file: that of a good model, spoilt, or random bits. It is an input: none of it may be written. */
+static void set_file(void) {
+    unsigned fault = (unsigned)below(16);
+    place_model(0);
+    repair_model();
+    place(OUTPUT, 1, WASNUGRAM_MODEL_FILE(shape.states, shape.symbols, shape.ends), 0);
+    for (size_t i = 0; i < 4; i++) place_output(OUTPUT + 1 + i, sizeof(double), words_in(shape, i));
+    if (fault == 15) return;
+    if (wasnugram_write_model(shape, LENT(0), LENT(1), LENT(2), LENT(3), LENT(OUTPUT)).refusal != WASNUGRAM_DONE) exit(2);
+    spoil_file(fault);
 }
 
 /* A case on a slice: half of the time with a NaN, and now and then with too short an output. */
@@ -156,12 +175,12 @@ static void set_case(enum call call) {
         uint64_t bits = random_bits();
         memcpy(arena + i, &bits, 8);
     }
-    if (call < LN_SUM_EXP) set_model(call);
+    if (call < READ_MODEL) set_model(call);
+    else if (call == READ_MODEL) set_file();
     else set_slice(call);
     memcpy(before, arena, ARENA);
 }
 
-#define LENT(number) at(number, 0), buffers[number].length
 #define MODEL shape, LENT(0), LENT(1), LENT(2), LENT(3), at(4, 0), samples_length
 
 static wasnugram_answer made(enum call call) {
@@ -170,6 +189,8 @@ static wasnugram_answer made(enum call call) {
     case FORWARD: return wasnugram_forward(MODEL, LENT(5));
     case BACKWARD: return wasnugram_backward(MODEL, LENT(5));
     case BAUM_WELCH: return wasnugram_baum_welch(MODEL, LENT(5), LENT(6), LENT(7), LENT(8), LENT(9), LENT(10));
+    case WRITE_MODEL: return wasnugram_write_model(shape, LENT(0), LENT(1), LENT(2), LENT(3), LENT(5));
+    case READ_MODEL: return wasnugram_read_model(LENT(5), LENT(6), LENT(7), LENT(8), LENT(9)).answer;
     case LN_SUM_EXP: return wasnugram_ln_sum_exp(LENT(0));
     default: return wasnugram_ln_cumsum_exp(LENT(0), LENT(5));
     }

@@ -3,6 +3,7 @@
  * is linked with and without one. */
 #include "wasnugram.h"
 #include "calls.h"
+#include "layout.h"
 
 #define MINUS_INFINITY (-__builtin_inf())
 #define NOT_A_NUMBER __builtin_nan("")
@@ -12,6 +13,7 @@
 _Static_assert(sizeof(wasnugram_shape) == 24 && offsetof(wasnugram_shape, symbols) == 8 && offsetof(wasnugram_shape, ends) == 16, "shape");
 _Static_assert(sizeof(wasnugram_answer) == 24 && offsetof(wasnugram_answer, table) == 1 && offsetof(wasnugram_answer, place) == 8 &&
                    offsetof(wasnugram_answer, value) == 16, "answer");
+_Static_assert(sizeof(wasnugram_reading) == 48 && offsetof(wasnugram_reading, shape) == 24, "reading");
 
 /* The sizes that the header gives, at a gate of 12 states, 256 symbols and 240 samples. */
 #define IS(size, entries) _Static_assert((size) == (entries), #size)
@@ -19,6 +21,8 @@ IS(WASNUGRAM_MODEL_TRANSITION(10 + 2), 144);
 IS(WASNUGRAM_MODEL_EMISSION(10 + 2, 255 + 1), 3072);
 IS(WASNUGRAM_MODEL_INITIAL(12), 12);
 IS(WASNUGRAM_MODEL_END(12), 12);
+IS(WASNUGRAM_MODEL_FILE(10 + 2, 255 + 1, 1 - 1), 25880);
+IS(WASNUGRAM_MODEL_FILE(10 + 2, 255 + 1, 1 + 1), 25992);
 IS(WASNUGRAM_VITERBI_PATH(240), 240);
 IS(WASNUGRAM_VITERBI_VALUES(10 + 2, 239 + 1), 2880);
 IS(WASNUGRAM_VITERBI_FROM(10 + 2, 239 + 1), 2880);
@@ -59,7 +63,7 @@ static int is_refused(wasnugram_answer a, uint8_t refusal, uint8_t table, size_t
 }
 
 /* All memory that is lent to the calls on a model, without padding, so that it can be compared byte by byte. */
-enum { S = 2, M = 3, T = 2, MOST = 16 };
+enum { S = 2, M = 3, T = 2, MOST = 16, FILE_BYTES = 184, FILE_ROOM = 192 };
 
 struct numbers {
     double entries[MOST];
@@ -76,7 +80,11 @@ struct lent {
     uint16_t samples[4];
     size_t samples_length;
     struct bytes path, from;
-    struct numbers outputs[6]; /* the first is `values` where a call has that; a training pass takes all */
+    struct {
+        uint8_t entries[FILE_ROOM];
+        size_t length;
+    } file;
+    struct numbers outputs[6]; /* the first is `values` where a call has that; a training pass takes all; the reader takes four */
 };
 
 static wasnugram_shape shape;
@@ -101,7 +109,7 @@ static void lend(void) {
     copy(lent.tables[3].entries, end, S);
     for (size_t i = 0; i < 4; i++) lent.tables[i].length = needed[i];
     lent.samples[0] = 0, lent.samples[1] = 2, lent.samples_length = T;
-    lent.path.length = T + 1, lent.from.length = S * T + 2;
+    lent.path.length = T + 1, lent.from.length = S * T + 2, lent.file.length = FILE_BYTES + 5;
     for (size_t i = 0; i < 6; i++) lent.outputs[i].length = needed[i] + 3;
 }
 
@@ -131,6 +139,10 @@ static wasnugram_answer backward(void) {
 static wasnugram_answer baum_welch(void) {
     return wasnugram_baum_welch(MODEL, LENT(lent.outputs[0]), LENT(lent.outputs[1]), LENT(lent.outputs[2]), LENT(lent.outputs[3]),
                                 LENT(lent.outputs[4]), LENT(lent.outputs[5]));
+}
+
+static wasnugram_answer write_model(void) {
+    return wasnugram_write_model(shape, TABLES, LENT(lent.file));
 }
 
 /* The same with structs; the room is in samples. */
@@ -163,7 +175,13 @@ static wasnugram_answer baum_welch_of(size_t room) {
     return wasnugram_baum_welch_of(&m, lent.samples, lent.samples_length, &outputs);
 }
 
-/* A call on a model, and each of its outputs in order: where its length stands, and what is needed. */
+/* A file has no samples: with room for T of them it has what it needs. */
+static wasnugram_answer write_model_of(size_t room) {
+    wasnugram_model m = model();
+    return wasnugram_write_model_of(&m, lent.file.entries, FILE_BYTES - T + room);
+}
+
+/* A call on a model, and each of its outputs in order: where its length stands, and what is needed. The last takes no samples. */
 struct call {
     wasnugram_answer (*plain)(void);
     wasnugram_answer (*of)(size_t room);
@@ -182,7 +200,9 @@ static const struct call CALLS[] = {
     { baum_welch, baum_welch_of, -31, 6,
       { { &lent.outputs[0].length, S * S }, { &lent.outputs[1].length, S * M }, { &lent.outputs[2].length, S },
         { &lent.outputs[3].length, S }, { &lent.outputs[4].length, S * T }, { &lent.outputs[5].length, S * T } } },
+    { write_model, write_model_of, 0, 1, { { &lent.file.length, FILE_BYTES } } },
 };
+enum { ALL_CALLS = sizeof CALLS / sizeof CALLS[0], CALLS_ON_SAMPLES = ALL_CALLS - 1 };
 
 /* The call is refused so, and no lent byte has changed. */
 static void refused(const struct call *call, uint8_t refusal, uint8_t table, size_t place) {
@@ -225,6 +245,9 @@ static void sizes_refused(const struct call *call) {
         shape.symbols = bad_symbols[i];
         refused(call, WASNUGRAM_BAD_SYMBOLS, 0, bad_symbols[i]);
     }
+}
+
+static void samples_refused(const struct call *call) {
     lend();
     lent.samples_length = WASNUGRAM_MOST_SAMPLES + 1;
     refused(call, WASNUGRAM_TOO_MANY_SAMPLES, WASNUGRAM_SAMPLES, WASNUGRAM_MOST_SAMPLES + 1);
@@ -257,10 +280,11 @@ static void same_with_structs(const struct call *call) {
 }
 
 static void calls_on_a_model(void) {
-    for (size_t i = 0; i < sizeof CALLS / sizeof CALLS[0]; i++) {
+    for (size_t i = 0; i < ALL_CALLS; i++) {
         tables_refused(&CALLS[i]);
         outputs_refused(&CALLS[i]);
         sizes_refused(&CALLS[i]);
+        if (i < CALLS_ON_SAMPLES) samples_refused(&CALLS[i]);
         end_refused(&CALLS[i]);
         same_with_structs(&CALLS[i]);
     }
@@ -369,6 +393,257 @@ static void zero_mass(void) {
     EXPECT(holds(&lent.outputs[4], S, cleared) && holds(&lent.outputs[5], S, cleared));
 }
 
+/* The chain's model file, with its end state and without one, by its 8-byte words, lowest byte first. */
+#define HEAD(states, symbols, flag, entries) ((uint64_t)(entries) << 48 | (uint64_t)(flag) << 32 | (uint64_t)(symbols) << 16 | (states))
+#define LABEL(number, offset) ((uint64_t)(offset) << 32 | (number))
+#define NEVER UINT64_C(0xfff0000000000000)
+#define TRANSITION_BODY NEVER, 0xc000000000000000, NEVER, NEVER
+#define TRANSITION_SUM 0xbfd0000000000000
+#define EMISSION_BODY 0xc010000000000000, 0xc050000000000000, NEVER, NEVER, 0xc060000000000000, 0xc020000000000000
+#define EMISSION_SUM 0x00c0000000000000
+#define INITIAL_BODY 0xbff0000000000000, NEVER
+#define INITIAL_SUM 0xbfe0000000000000
+#define END_BODY NEVER, 0xc030000000000000
+#define END_SUM 0xc020000000000000
+
+static const struct stored {
+    uint8_t ends;
+    uint8_t entries;
+    size_t body[5]; /* where each body begins, and where the file ends */
+    uint64_t words[FILE_BYTES / 8];
+} STORED[] = {
+    { 0, 3, { 56, 88, 136, 152, 152 },
+      { HEAD(S, M, 0, 3), LABEL(0, 56), TRANSITION_SUM, LABEL(1, 88), EMISSION_SUM, LABEL(2, 136), INITIAL_SUM,
+        TRANSITION_BODY, EMISSION_BODY, INITIAL_BODY } },
+    { 1, 4, { 72, 104, 152, 168, 184 },
+      { HEAD(S, M, 1, 4), LABEL(0, 72), TRANSITION_SUM, LABEL(1, 104), EMISSION_SUM, LABEL(2, 152), INITIAL_SUM, LABEL(3, 168), END_SUM,
+        TRANSITION_BODY, EMISSION_BODY, INITIAL_BODY, END_BODY } },
+};
+enum { ENTRY = 16, SUM = 8 }; /* an entry of the contents, and where its sum is in it */
+
+/* Sets an entry of the file's body, and the sum with it. */
+static void set_lent_entry(const struct stored *f, size_t table, size_t i, uint64_t word) {
+    set_entry(lent.file.entries, (wasnugram_shape){ S, M, f->ends }, table, i, word);
+}
+
+static void lend_file(const struct stored *f) {
+    lend();
+    lent.file.length = f->body[4];
+    for (size_t i = 0; i < lent.file.length; i += 8) set_word(&lent.file.entries[i], f->words[i / 8]);
+}
+
+#define FOUR(list) LENT((list)[0]), LENT((list)[1]), LENT((list)[2]), LENT((list)[3])
+
+static wasnugram_reading read_model(void) {
+    return wasnugram_read_model(LENT(lent.file), FOUR(lent.outputs));
+}
+
+static int is_shape(wasnugram_shape a, size_t states, size_t symbols, uint8_t ends) {
+    return a.states == states && a.symbols == symbols && a.ends == ends;
+}
+
+/* Whether the reader refuses so, gives no shape and changes no lent byte. */
+static int not_read(uint8_t refusal, uint8_t table, size_t place) {
+    before = lent;
+    wasnugram_reading r = read_model();
+    return is_refused(r.answer, refusal, table, place) && is_shape(r.shape, 0, 0, 0) && untouched();
+}
+
+/* Whether the outputs hold the chain's tables as this file has them, and their surplus is as it was. */
+static int holds_chain(const struct stored *f) {
+    static const double zeros[S];
+    return holds(&lent.outputs[0], S * S, lent.tables[0].entries) && holds(&lent.outputs[1], S * M, lent.tables[1].entries) &&
+           holds(&lent.outputs[2], S, lent.tables[2].entries) && holds(&lent.outputs[3], S, f->ends ? lent.tables[3].entries : zeros);
+}
+
+/* Whether the file holds these bytes, and its surplus is as it was. */
+static int holds_file(const struct stored *f) {
+    int so = 1;
+    for (size_t i = 0; i < FILE_ROOM; i++) {
+        so &= lent.file.entries[i] == (i < f->body[4] ? (uint8_t)(f->words[i / 8] >> i % 8 * 8) : 0xa5);
+    }
+    return so;
+}
+
+/* What is written, whatever byte says that there is an end state, and what is read of it. */
+static void written_and_read(const struct stored *f) {
+    static const uint8_t flags[] = { 1, 2, 255 };
+    for (size_t i = 0; i < sizeof flags; i++) {
+        lend();
+        shape.ends = f->ends ? flags[i] : 0;
+        if (!f->ends) lent.tables[3].entries[0] = 0, lent.tables[3].entries[1] = 0;
+        EXPECT(is_done(write_model(), 0) && holds_file(f));
+    }
+    lend_file(f);
+    wasnugram_reading r = read_model();
+    EXPECT(is_done(r.answer, 0) && is_shape(r.shape, S, M, f->ends) && holds_chain(f));
+}
+
+/* Reading and writing at an address that is no multiple of 8. */
+static void at_any_address(const struct stored *f) {
+    static uint8_t bytes[8 + FILE_BYTES];
+    for (size_t shift = 1; shift < 8; shift++) {
+        lend();
+        shape.ends = 1;
+        EXPECT(is_done(wasnugram_write_model(shape, TABLES, bytes + shift, FILE_BYTES), 0));
+        EXPECT(is_done(wasnugram_read_model(bytes + shift, FILE_BYTES, FOUR(lent.outputs)).answer, 0) && holds_chain(f));
+    }
+}
+
+/* Whether the reader refuses this flip with the number, the table and the place that the byte tells. The first numbers are 1, 2 or 13. */
+static int flip_refused(const struct stored *f, size_t byte, unsigned bit) {
+    size_t contents = f->body[0], entry = byte < 8 ? 0 : (byte - 8) / ENTRY, in_entry = (byte - 8) % ENTRY;
+    uint8_t table = byte < contents ? (uint8_t)entry : (uint8_t)((byte >= f->body[1]) + (byte >= f->body[2]) + (byte >= f->body[3]));
+    lend_file(f);
+    lent.file.entries[byte] ^= (uint8_t)(1u << bit);
+    before = lent;
+    wasnugram_reading r = read_model();
+    int so = is_shape(r.shape, 0, 0, 0) && untouched();
+    if (byte < 8) return so && (r.answer.refusal == 1 || r.answer.refusal == 2 || r.answer.refusal == WASNUGRAM_BAD_LAYOUT);
+    if (byte < contents && in_entry < SUM) return so && is_refused(r.answer, WASNUGRAM_BAD_LAYOUT, 0, byte);
+    return so && is_refused(r.answer, WASNUGRAM_BAD_SUM, table, 0);
+}
+
+static void every_flip(const struct stored *f) {
+    for (size_t i = 0; i < 8 * f->body[4]; i++) EXPECT(flip_refused(f, i / 8, i % 8));
+}
+
+/* Every shorter file and every longer one that there is room for. */
+static void every_length(const struct stored *f) {
+    for (size_t length = 0; length <= FILE_ROOM; length++) {
+        lend_file(f);
+        lent.file.length = length;
+        if (length != f->body[4]) EXPECT(not_read(WASNUGRAM_BAD_LAYOUT, 0, length < f->body[4] ? length : f->body[4]));
+    }
+}
+
+/* The first numbers of a file with an end state, altered: which byte, what it becomes, and what is said of it. */
+static const struct {
+    uint8_t byte, becomes, refusal;
+    size_t place;
+} FIRST_NUMBERS[] = {
+    { 0, 0, WASNUGRAM_BAD_STATES, 0 }, { 0, 65, WASNUGRAM_BAD_STATES, 65 }, { 1, 1, WASNUGRAM_BAD_STATES, 258 },
+    { 1, 255, WASNUGRAM_BAD_STATES, 65282 }, { 2, 0, WASNUGRAM_BAD_SYMBOLS, 0 }, { 3, 1, WASNUGRAM_BAD_SYMBOLS, 259 },
+    { 3, 255, WASNUGRAM_BAD_SYMBOLS, 65283 }, { 0, 1, WASNUGRAM_BAD_LAYOUT, 28 }, { 0, 34, WASNUGRAM_BAD_LAYOUT, 29 },
+    { 0, 64, WASNUGRAM_BAD_LAYOUT, 28 }, { 2, 2, WASNUGRAM_BAD_LAYOUT, 44 }, { 2, 255, WASNUGRAM_BAD_LAYOUT, 44 },
+    { 4, 0, WASNUGRAM_BAD_LAYOUT, 6 }, { 4, 2, WASNUGRAM_BAD_LAYOUT, 4 }, { 4, 255, WASNUGRAM_BAD_LAYOUT, 4 },
+    { 5, 1, WASNUGRAM_BAD_LAYOUT, 5 }, { 6, 3, WASNUGRAM_BAD_LAYOUT, 6 }, { 7, 1, WASNUGRAM_BAD_LAYOUT, 7 },
+};
+
+static void first_numbers(const struct stored *f) {
+    for (size_t i = 0; i < sizeof FIRST_NUMBERS / sizeof FIRST_NUMBERS[0]; i++) {
+        lend_file(f);
+        lent.file.entries[FIRST_NUMBERS[i].byte] = FIRST_NUMBERS[i].becomes;
+        EXPECT(not_read(FIRST_NUMBERS[i].refusal, 0, FIRST_NUMBERS[i].place));
+    }
+}
+
+/* A table that is lent too short, and each word at a border between good and bad, in each table that the file has. */
+static void entries_read(const struct stored *f) {
+    for (uint8_t i = 0; i < f->entries; i++) {
+        lend_file(f);
+        lent.outputs[i].length -= 4;
+        EXPECT(not_read(WASNUGRAM_OUTPUT_TOO_SHORT, 6 + i, lent.outputs[i].length));
+        lend_file(f);
+        set_lent_entry(f, i, 1, 1);
+        EXPECT(not_read(WASNUGRAM_NOT_GOOD, i, 1));
+        set_lent_entry(f, i, 0, UINT64_C(0x7fffffffffffffff));
+        EXPECT(not_read(WASNUGRAM_NOT_GOOD, i, 0));
+        set_lent_entry(f, i, 0, NEVER + 1);
+        EXPECT(not_read(WASNUGRAM_NOT_GOOD, i, 0));
+        set_lent_entry(f, i, 0, bits(-0.0));
+        set_lent_entry(f, i, 1, 0);
+        EXPECT(is_done(read_model().answer, 0) && bits(lent.outputs[i].entries[0]) == bits(-0.0) && bits(lent.outputs[i].entries[1]) == 0);
+    }
+}
+
+/* Of many faults the first in the order of the checks answers: each is taken away in turn. */
+static void order_of_faults(const struct stored *f) {
+    uint8_t *file = lent.file.entries;
+    lend_file(f);
+    set_lent_entry(f, 1, 0, 1), set_lent_entry(f, 0, 3, 1);
+    lent.outputs[3].length = S - 1, lent.outputs[1].length = S * M - 1;
+    file[8 + ENTRY + SUM] ^= 1, file[8 + SUM] ^= 1, file[28] ^= 1, file[12] ^= 1, file[5] = 1, file[2] = 0, file[0] = 0;
+    EXPECT(not_read(WASNUGRAM_BAD_STATES, 0, 0)), file[0] = S;
+    EXPECT(not_read(WASNUGRAM_BAD_SYMBOLS, 0, 0)), file[2] = M;
+    EXPECT(not_read(WASNUGRAM_BAD_LAYOUT, 0, 5)), file[5] = 0;
+    EXPECT(not_read(WASNUGRAM_BAD_LAYOUT, 0, 12)), file[12] ^= 1;
+    EXPECT(not_read(WASNUGRAM_BAD_LAYOUT, 0, 28)), file[28] ^= 1;
+    EXPECT(not_read(WASNUGRAM_BAD_SUM, 0, 0)), file[8 + SUM] ^= 1;
+    EXPECT(not_read(WASNUGRAM_BAD_SUM, 1, 0)), file[8 + ENTRY + SUM] ^= 1;
+    EXPECT(not_read(WASNUGRAM_OUTPUT_TOO_SHORT, 7, S * M - 1)), lent.outputs[1].length = S * M;
+    EXPECT(not_read(WASNUGRAM_OUTPUT_TOO_SHORT, 9, S - 1)), lent.outputs[3].length = S;
+    EXPECT(not_read(WASNUGRAM_NOT_GOOD, 0, 3)), set_lent_entry(f, 0, 3, 0);
+    EXPECT(not_read(WASNUGRAM_NOT_GOOD, 1, 0)), set_lent_entry(f, 1, 0, 0);
+    EXPECT(is_done(read_model().answer, 0));
+}
+
+/* The form with structs reads the same into the same memory and points there; where it refuses it leaves the model as it was. */
+static void read_with_structs(const struct stored *f) {
+    struct numbers *o = lent.outputs;
+    wasnugram_model_room room = { S, M, o[0].entries, o[1].entries, o[2].entries, o[3].entries };
+    wasnugram_model read = model();
+    lend_file(f);
+    EXPECT(is_done(wasnugram_read_model_of(LENT(lent.file), &room, &read), 0) && holds_chain(f) && is_shape(read.shape, S, M, f->ends));
+    EXPECT(read.transition == room.transition && read.emission == room.emission && read.initial == room.initial && read.end == room.end);
+    read = model(), room.symbols -= 1;
+    lend_file(f);
+    before = lent;
+    EXPECT(is_refused(wasnugram_read_model_of(LENT(lent.file), &room, &read), WASNUGRAM_OUTPUT_TOO_SHORT, 7, S * M - S) && untouched());
+    EXPECT(read.transition == lent.tables[0].entries && read.emission == lent.tables[1].entries && is_shape(read.shape, S, M, 255));
+    EXPECT(read.initial == lent.tables[2].entries && read.end == lent.tables[3].entries);
+}
+
+/* Null with length 0 for the table of this number, and what is lent for every other. */
+#define UNLESS(none, list, i) (none) == (i) ? 0 : (list)[i].entries, (none) == (i) ? 0 : (list)[i].length
+#define FOUR_UNLESS(none, list) UNLESS(none, list, 0), UNLESS(none, list, 1), UNLESS(none, list, 2), UNLESS(none, list, 3)
+
+static void null_in_each_role(const struct stored *f) {
+    lend_file(f);
+    EXPECT(is_refused(wasnugram_read_model(0, 0, 0, 0, 0, 0, 0, 0, 0, 0).answer, WASNUGRAM_BAD_LAYOUT, 0, 0));
+    EXPECT(is_refused(wasnugram_read_model(0, 0, FOUR(lent.outputs)).answer, WASNUGRAM_BAD_LAYOUT, 0, 0));
+    EXPECT(is_refused(wasnugram_write_model(shape, TABLES, 0, 0), WASNUGRAM_OUTPUT_TOO_SHORT, 5, 0));
+    for (uint8_t i = 0; i < 4; i++) {
+        wasnugram_answer a = wasnugram_read_model(LENT(lent.file), FOUR_UNLESS(i, lent.outputs)).answer;
+        EXPECT(is_refused(a, WASNUGRAM_OUTPUT_TOO_SHORT, 6 + i, 0));
+        EXPECT(is_refused(wasnugram_write_model(shape, FOUR_UNLESS(i, lent.tables), LENT(lent.file)), WASNUGRAM_WRONG_LENGTH, i, 0));
+    }
+}
+
+static size_t file_length(size_t states, size_t symbols, uint8_t ends) {
+    return wasnugram_model_file_length((wasnugram_shape){ states, symbols, ends });
+}
+
+/* The length of every shape's file, and of no others. */
+static void file_lengths(void) {
+    enum { COLUMNS = WASNUGRAM_MOST_SYMBOLS + 2 };
+    EXPECT(file_length(2, 2, 0) == 136 && file_length(12, 256, 0) == 25880 && file_length(64, 256, 255) == 164936);
+    EXPECT(file_length(SIZE_MAX, 2, 0) == 0 && file_length(2, SIZE_MAX, 0) == 0 && file_length((size_t)1 << 32 | 2, 2, 0) == 0);
+    EXPECT(file_length(2, (size_t)1 << 32 | 2, 1) == 0 && file_length(S, M, 2) == FILE_BYTES);
+    for (size_t i = 0; i < (WASNUGRAM_MOST_STATES + 2) * COLUMNS; i++) {
+        size_t states = i / COLUMNS, symbols = i % COLUMNS;
+        int is_shaped = states - 1 < WASNUGRAM_MOST_STATES && symbols - 1 < WASNUGRAM_MOST_SYMBOLS;
+        EXPECT(file_length(states, symbols, 0) == (is_shaped ? WASNUGRAM_MODEL_FILE(states, symbols, 0) : 0));
+        EXPECT(file_length(states, symbols, 1) == (is_shaped ? WASNUGRAM_MODEL_FILE(states, symbols, 1) : 0));
+    }
+}
+
+static void model_files(void) {
+    const struct stored *with_end = &STORED[1];
+    for (const struct stored *f = STORED; f <= with_end; f++) {
+        written_and_read(f);
+        every_flip(f);
+        every_length(f);
+        entries_read(f);
+        read_with_structs(f);
+        null_in_each_role(f);
+    }
+    at_any_address(with_end);
+    first_numbers(with_end);
+    order_of_faults(with_end);
+    file_lengths();
+}
+
 /* No samples, and null wherever a length is 0. */
 static void nothing_lent(void) {
     lend();
@@ -454,6 +729,7 @@ int calls_wrong(void) {
     endings();
     a_pass();
     zero_mass();
+    model_files();
     nothing_lent();
     gate_posts();
     possible();

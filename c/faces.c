@@ -1,14 +1,17 @@
 /* Wrong faces, and whether calls.c sees each: any two arguments of one type exchanged in an export, any two fields of a shape or an
- * answer, any two exports of one signature; and a best path that ends in a wrong way. The linker puts these functions between calls.c and
- * the archive (--wrap). */
+ * answer, any two exports of one signature; a best path that ends in a wrong way; and a wrong reader or writer of model files. The linker
+ * puts these functions between calls.c and the archive (--wrap). */
 #include <stdio.h>
+#include <string.h>
 #include "wasnugram.h"
 #include "calls.h"
+#include "layout.h"
 
 /* What can be exchanged within: how many places each has. */
 enum group {
     VITERBI_NUMBERS, VITERBI_BYTES, VITERBI_SHAPE, FORWARD_NUMBERS, FORWARD_SHAPE, BACKWARD_NUMBERS, BACKWARD_SHAPE,
-    PASS_NUMBERS, PASS_SHAPE, ADD_ARGUMENTS, SUB_ARGUMENTS, CAP_ARGUMENTS, CUMSUM_NUMBERS, ANSWER, WALKS, OF_ONE, OF_TWO, GROUPS
+    PASS_NUMBERS, PASS_SHAPE, READ_NUMBERS, READ_SHAPE, WRITE_NUMBERS, WRITE_SHAPE, LENGTH_SHAPE, ADD_ARGUMENTS, SUB_ARGUMENTS,
+    CAP_ARGUMENTS, CUMSUM_NUMBERS, ANSWER, WALKS, OF_ONE, OF_TWO, GROUPS
 };
 
 static const struct {
@@ -24,6 +27,11 @@ static const struct {
     [BACKWARD_SHAPE] = { "shape of backward", 3 },
     [PASS_NUMBERS] = { "doubles of baum_welch", 10 },
     [PASS_SHAPE] = { "shape of baum_welch", 3 },
+    [READ_NUMBERS] = { "doubles of read_model", 4 },
+    [READ_SHAPE] = { "shape that read_model gives", 3 },
+    [WRITE_NUMBERS] = { "doubles of write_model", 4 },
+    [WRITE_SHAPE] = { "shape of write_model", 3 },
+    [LENGTH_SHAPE] = { "shape of model_file_length", 3 },
     [ADD_ARGUMENTS] = { "arguments of ln_add_exp", 2 },
     [SUB_ARGUMENTS] = { "arguments of ln_sub_exp", 2 },
     [CAP_ARGUMENTS] = { "arguments of cap_numerical_overshoot", 2 },
@@ -57,6 +65,43 @@ static uint8_t flag_of(uint8_t ends) {
     return way_out == LEFT_OUT ? 0 : way_out == ALWAYS_ADDED ? 1 : way_out == LOWEST_BIT ? ends & 1 : ends;
 }
 
+/* What is wrong with a model file in the face that is tried. */
+static enum filing {
+    TRUE_FILING, FLAG_OF_READING, SHAPE_OF_REFUSED, VALUE_OF_READING, CLEARED_TABLE, LEFT_OVER, LAST_SUM, ROOM_FIRST, ROUNDED_ADDRESS,
+    PLACE_OF_STATES, INITIAL_UNCHECKED, NULL_TABLE, LAST_EMISSION, FLAG_OF_WRITER, VALUE_OF_WRITER, INITIAL_WRITTEN, FLAG_OF_LENGTH,
+    FILINGS
+} filing;
+static const char *const FILING[FILINGS] = {
+    [FLAG_OF_READING] = "the reader gives 255 for the end flag",
+    [SHAPE_OF_REFUSED] = "the reader gives a shape where it refuses",
+    [VALUE_OF_READING] = "the reader's value is -0.0",
+    [CLEARED_TABLE] = "the reader clears an entry where it refuses",
+    [LEFT_OVER] = "the reader lets bytes pass that are left over",
+    [LAST_SUM] = "the reader does not compare the last table's sum",
+    [ROOM_FIRST] = "the reader gives 6 before 14",
+    [ROUNDED_ADDRESS] = "the reader rounds the file's address down to 8",
+    [PLACE_OF_STATES] = "the reader's 1 is at place 0",
+    [INITIAL_UNCHECKED] = "the reader gives no 7 in table 2",
+    [NULL_TABLE] = "the reader gives 7 for a table that is null",
+    [LAST_EMISSION] = "the reader gives another last emission",
+    [FLAG_OF_WRITER] = "the writer takes the lowest bit for the end flag",
+    [VALUE_OF_WRITER] = "the writer's value is -0.0",
+    [INITIAL_WRITTEN] = "the writer writes -0.0 for an initial entry where there is no end state",
+    [FLAG_OF_LENGTH] = "the file's length takes the lowest bit for the end flag",
+};
+
+/* The shape with its end flag's lowest bit alone, where that is the face that is tried. */
+static wasnugram_shape lowest_bit_in(enum filing wrong, wasnugram_shape shape) {
+    if (filing == wrong) shape.ends &= 1;
+    return shape;
+}
+
+/* The answer with its zero negated, where that is the face that is tried. */
+static wasnugram_answer negated_in(enum filing wrong, wasnugram_answer a) {
+    if (filing == wrong && a.refusal == WASNUGRAM_DONE) a.value = -a.value;
+    return a;
+}
+
 static wasnugram_shape shape_of(enum group group, wasnugram_shape shape) {
     size_t fields[] = { shape.states, shape.symbols, shape.ends };
     return (wasnugram_shape){ fields[place(group, 0)], fields[place(group, 1)], (uint8_t)fields[place(group, 2)] };
@@ -79,9 +124,10 @@ struct bytes {
 
 #define LENT(list, group, i) list[place(group, i)].entries, list[place(group, i)].length
 #define TABLES(list, group) LENT(list, group, 0), LENT(list, group, 1), LENT(list, group, 2), LENT(list, group, 3)
-#define MODEL                                                                                                                \
-    wasnugram_shape shape, double *transition, size_t transition_length, double *emission, size_t emission_length,           \
-        double *initial, size_t initial_length, double *end, size_t end_length, uint16_t *samples, size_t samples_length
+#define MODEL_TABLE_LIST                                                                                                     \
+    double *transition, size_t transition_length, double *emission, size_t emission_length,                                  \
+        double *initial, size_t initial_length, double *end, size_t end_length
+#define MODEL wasnugram_shape shape, MODEL_TABLE_LIST, uint16_t *samples, size_t samples_length
 #define MODEL_TABLES { transition, transition_length }, { emission, emission_length }, { initial, initial_length }, { end, end_length }
 #define PATH MODEL, uint8_t *path, size_t path_length, double *values, size_t values_length, uint8_t *from, size_t from_length
 #define WALK MODEL, double *values, size_t values_length
@@ -89,10 +135,15 @@ struct bytes {
     MODEL, double *new_transition, size_t new_transition_length, double *new_emission, size_t new_emission_length,           \
         double *new_initial, size_t new_initial_length, double *new_end, size_t new_end_length, double *alpha,               \
         size_t alpha_length, double *beta, size_t beta_length
+#define READ uint8_t *file, size_t file_length, MODEL_TABLE_LIST
+#define WRITE wasnugram_shape shape, MODEL_TABLE_LIST, uint8_t *file, size_t file_length
 #define CUMSUM double *probs, size_t probs_length, double *sums, size_t sums_length
 
 wasnugram_answer __real_wasnugram_viterbi(PATH), __real_wasnugram_forward(WALK), __real_wasnugram_backward(WALK);
 wasnugram_answer __real_wasnugram_baum_welch(PASS), __real_wasnugram_ln_cumsum_exp(CUMSUM), __real_wasnugram_ln_sum_exp(double *, size_t);
+wasnugram_reading __real_wasnugram_read_model(READ);
+wasnugram_answer __real_wasnugram_write_model(WRITE);
+size_t __real_wasnugram_model_file_length(wasnugram_shape);
 wasnugram_answer __real_wasnugram_exp(double), __real_wasnugram_ln(double), __real_wasnugram_ln_one_minus_exp(double);
 wasnugram_answer __real_wasnugram_ln_add_exp(double, double), __real_wasnugram_ln_sub_exp(double, double);
 wasnugram_answer __real_wasnugram_cap_numerical_overshoot(double, double);
@@ -141,6 +192,62 @@ wasnugram_answer __wrap_wasnugram_baum_welch(PASS) {
     return answer_of(__real_wasnugram_baum_welch(shape_of(PASS_SHAPE, shape), TABLES(n, PASS_NUMBERS), samples, samples_length,
                                                  LENT(n, PASS_NUMBERS, 4), LENT(n, PASS_NUMBERS, 5), LENT(n, PASS_NUMBERS, 6),
                                                  LENT(n, PASS_NUMBERS, 7), LENT(n, PASS_NUMBERS, 8), LENT(n, PASS_NUMBERS, 9)));
+}
+
+/* A copy of a file with the last table's sum set right. */
+static uint8_t *with_last_sum(const uint8_t *file, size_t length, wasnugram_shape shape) {
+    static uint8_t copy[256];
+    size_t table = tables_in(shape) - 1;
+    uint64_t sum = 0;
+    memcpy(copy, file, length);
+    for (size_t at = body_offset(shape, table); at < length; at += 8) sum += word_at(copy + at);
+    set_word(copy + sum_offset(table), sum);
+    return copy;
+}
+
+/* The reader, in the faces that do not look at the whole file or not at the right one. */
+static wasnugram_reading read_model(uint8_t *file, size_t file_length, const struct numbers *n) {
+    wasnugram_shape shape = { 0, 0, 0 };
+    if (file_length >= 8) shape = (wasnugram_shape){ file[0], file[2], file[4] == 1 };
+    size_t length = __real_wasnugram_model_file_length(shape);
+    if (filing == LEFT_OVER && length && length < file_length) file_length = length;
+    if (filing == LAST_SUM && length && length == file_length) file = with_last_sum(file, length, shape);
+    if (filing == ROUNDED_ADDRESS) file -= (uintptr_t)file % 8;
+    return __real_wasnugram_read_model(file, file_length, TABLES(n, READ_NUMBERS));
+}
+
+/* The reader's answer, in the faces that give another one. An end table that is too short has one entry, or none. */
+static wasnugram_answer read_answer(wasnugram_answer a, const struct numbers *n) {
+    int is_short = n[WASNUGRAM_END].length < 2;
+    if (filing == ROOM_FIRST && a.refusal == WASNUGRAM_BAD_SUM && is_short) a.refusal = WASNUGRAM_OUTPUT_TOO_SHORT;
+    if (filing == PLACE_OF_STATES && a.refusal == WASNUGRAM_BAD_STATES) a.place = 0;
+    if (filing == INITIAL_UNCHECKED && a.refusal == WASNUGRAM_NOT_GOOD && a.table == WASNUGRAM_INITIAL) a.refusal = WASNUGRAM_DONE;
+    if (filing == NULL_TABLE && a.refusal == WASNUGRAM_OUTPUT_TOO_SHORT && !n[WASNUGRAM_END].entries) a.refusal = WASNUGRAM_NOT_GOOD;
+    return negated_in(VALUE_OF_READING, a);
+}
+
+wasnugram_reading __wrap_wasnugram_read_model(READ) {
+    struct numbers n[] = { MODEL_TABLES };
+    wasnugram_reading r = read_model(file, file_length, n);
+    int is_refused = r.answer.refusal != WASNUGRAM_DONE;
+    if (filing == SHAPE_OF_REFUSED && is_refused) r.shape.states = 2;
+    if (filing == CLEARED_TABLE && is_refused && transition_length) transition[0] = 0;
+    if (filing == LAST_EMISSION && !is_refused) emission[words_in(r.shape, WASNUGRAM_EMISSION) - 1] = -0.0;
+    if (filing == FLAG_OF_READING && r.shape.ends) r.shape.ends = 255;
+    return (wasnugram_reading){ answer_of(read_answer(r.answer, n)), shape_of(READ_SHAPE, r.shape) };
+}
+
+wasnugram_answer __wrap_wasnugram_write_model(WRITE) {
+    struct numbers n[] = { MODEL_TABLES };
+    wasnugram_shape lent = shape_of(WRITE_SHAPE, lowest_bit_in(FLAG_OF_WRITER, shape));
+    wasnugram_answer a = __real_wasnugram_write_model(lent, TABLES(n, WRITE_NUMBERS), file, file_length);
+    int is_altered = filing == INITIAL_WRITTEN && a.refusal == WASNUGRAM_DONE && !shape.ends;
+    if (is_altered) set_entry(file, shape, WASNUGRAM_INITIAL, 0, UINT64_C(1) << 63);
+    return answer_of(negated_in(VALUE_OF_WRITER, a));
+}
+
+size_t __wrap_wasnugram_model_file_length(wasnugram_shape shape) {
+    return __real_wasnugram_model_file_length(shape_of(LENGTH_SHAPE, lowest_bit_in(FLAG_OF_LENGTH, shape)));
 }
 
 wasnugram_answer __wrap_wasnugram_ln_cumsum_exp(CUMSUM) {
@@ -213,12 +320,20 @@ static void try_ways_out(void) {
     way_out = RIGHT;
 }
 
+static void try_filings(void) {
+    for (filing = TRUE_FILING + 1; filing < FILINGS; filing++) {
+        if (is_unseen()) printf("a wrong face is not seen: %s\n", FILING[filing]);
+    }
+    filing = TRUE_FILING;
+}
+
 int main(void) {
     if (calls_wrong()) {
         printf("the right face is taken for a wrong one, in line %d of c/calls.c\n", calls_first_wrong_line);
         return 1;
     }
     try_ways_out();
+    try_filings();
     for (enum group group = 0; group < GROUPS; group++) try_group(group);
     printf("%zu wrong faces tried, %zu not seen\n", tried, unseen);
     return unseen != 0;

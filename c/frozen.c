@@ -10,9 +10,11 @@
 #include <string.h>
 #include "wasnugram.h"
 
-enum { MOST_LISTS = 12, FROZEN_CALLS = 18, ANSWER = 1, FIRST_LIST = 5 };
+enum { MOST_LISTS = 12, ALTERED = 64, ANSWER = 1, FIRST_LIST = 5 };
+enum { READ_MODEL = 18, WRITE_MODEL = 19, FILE_LENGTH = 20 };
 
-/* The calls that the face has, by number, and their lists: w a shape, n doubles, s samples, b bytes; inputs, then outputs. */
+/* The calls by number, without a name where the face does not have one, and their lists: w a shape, n doubles, s samples, b bytes; inputs,
+ * then outputs. */
 static const struct {
     const char *name, *inputs, *outputs;
 } CALLS[] = {
@@ -28,8 +30,11 @@ static const struct {
     { "ln_sub_exp", "n", "" },
     { "ln_cumsum_exp", "n", "n" },
     { "cap_numerical_overshoot", "n", "" },
+    [READ_MODEL] = { "read_model", "b", "wnnnn" },
+    [WRITE_MODEL] = { "write_model", "wnnnn", "b" },
+    [FILE_LENGTH] = { "file_length", "w", "" },
 };
-enum { FACE_CALLS = sizeof CALLS / sizeof CALLS[0] };
+enum { FROZEN_CALLS = sizeof CALLS / sizeof CALLS[0] };
 
 /* A list of a case, and the memory that is lent for it. */
 struct list {
@@ -86,13 +91,29 @@ static void lend(struct list *list) {
 }
 
 #define LENT(i) lists[i].lent, lists[i].length
-#define MODEL shape, LENT(1), LENT(2), LENT(3), LENT(4), LENT(5)
+#define TABLES LENT(1), LENT(2), LENT(3), LENT(4)
+#define MODEL shape, TABLES, LENT(5)
+
+/* Reads a model file: the shape that is given is an output of three words. */
+static wasnugram_answer read_model(void) {
+    if (lists[1].length != 3) not_whole();
+    wasnugram_reading r = wasnugram_read_model(LENT(0), LENT(2), LENT(3), LENT(4), LENT(5));
+    memcpy(lists[1].lent, (uint64_t[]){ r.shape.states, r.shape.symbols, r.shape.ends }, 3 * sizeof(uint64_t));
+    return r.answer;
+}
+
+/* The length of a model file, which is the value of its case. */
+static wasnugram_answer file_length(wasnugram_shape shape) {
+    return (wasnugram_answer){ WASNUGRAM_DONE, 0, 0, (double)wasnugram_model_file_length(shape) };
+}
 
 static wasnugram_answer call_on_model(size_t call) {
     const uint64_t *s = lists[0].words;
     if (lists[0].length != 3) not_whole();
     wasnugram_shape shape = { (size_t)s[0], (size_t)s[1], (uint8_t)s[2] };
     switch (call) {
+    case WRITE_MODEL: return wasnugram_write_model(shape, TABLES, LENT(5));
+    case FILE_LENGTH: return file_length(shape);
     case 0: return wasnugram_viterbi(MODEL, LENT(6), LENT(7), LENT(8));
     case 1: return wasnugram_forward(MODEL, LENT(6));
     case 2: return wasnugram_backward(MODEL, LENT(6));
@@ -116,6 +137,11 @@ static wasnugram_answer call_on_numbers(size_t call) {
     }
 }
 
+static wasnugram_answer made(size_t call) {
+    if (call == READ_MODEL) return read_model();
+    return CALLS[call].inputs[0] == 'w' ? call_on_model(call) : call_on_numbers(call);
+}
+
 static int answer_differs(wasnugram_answer a, const uint64_t *expected) {
     uint64_t value;
     memcpy(&value, &a.value, sizeof value);
@@ -132,7 +158,7 @@ static int list_differs(const struct list *list) {
 /* Makes the call of a case whose lists are found: whether the answer or anything that was lent is another than the case says. */
 static int differs(size_t call, const uint64_t *words) {
     for (size_t i = 0; i < lists_length; i++) lend(&lists[i]);
-    int so = answer_differs(call < 4 ? call_on_model(call) : call_on_numbers(call), words + ANSWER);
+    int so = answer_differs(made(call), words + ANSWER);
     for (size_t i = 0; i < lists_length; i++) {
         so |= list_differs(&lists[i]);
         free(lists[i].lent);
@@ -141,7 +167,7 @@ static int differs(size_t call, const uint64_t *words) {
 }
 
 /* How many cases of each call there are: altered or not, different or not. */
-static size_t cases[2][2][FACE_CALLS];
+static size_t cases[2][2][FROZEN_CALLS];
 /* How many words were altered here, and how many of them went unseen. */
 static size_t altered, unseen;
 
@@ -165,9 +191,9 @@ static void alter(size_t call, uint64_t *words) {
 
 /* Replays a case, unless it is of a call that C does not have. */
 static void replay(uint64_t *words, size_t length, int is_to_alter) {
-    if (length < FIRST_LIST || words[0] >= 2 * FROZEN_CALLS) not_whole();
-    size_t call = (size_t)words[0] % FROZEN_CALLS, is_altered = (size_t)words[0] / FROZEN_CALLS;
-    if (call >= FACE_CALLS) return;
+    if (length < FIRST_LIST || words[0] >= 2 * ALTERED || words[0] % ALTERED >= FROZEN_CALLS) not_whole();
+    size_t call = (size_t)words[0] % ALTERED, is_altered = (size_t)words[0] / ALTERED;
+    if (!CALLS[call].name) return;
     int so = !find_lists(words, length, call) || differs(call, words);
     cases[is_altered][so][call]++;
     if (is_to_alter && !so) alter(call, words);
@@ -200,7 +226,8 @@ static uint64_t *read_list(const char *name, size_t *length) {
 /* A line for each call. Whether every call has cases that are the same, none that differs, and no altered one that is the same. */
 static int print(void) {
     int so = 1;
-    for (size_t call = 0; call < FACE_CALLS; call++) {
+    for (size_t call = 0; call < FROZEN_CALLS; call++) {
+        if (!CALLS[call].name) continue;
         size_t same = cases[0][0][call], different = cases[0][1][call], missed = cases[1][0][call], seen = cases[1][1][call];
         printf("%-24s %zu same, %zu differ; altered: %zu same, %zu differ\n", CALLS[call].name, same, different, missed, seen);
         so &= same > 0 && different == 0 && missed == 0;

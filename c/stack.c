@@ -25,14 +25,14 @@ static double transition[STATES * STATES], emission[STATES * SYMBOLS], initial[S
 static double new_transition[STATES * STATES], new_emission[STATES * SYMBOLS], new_initial[STATES], new_end[STATES];
 static double alpha[SAMPLES * STATES], beta[SAMPLES * STATES];
 static uint16_t samples[SAMPLES];
-static uint8_t path[SAMPLES], from[SAMPLES * STATES];
+static uint8_t path[SAMPLES], from[SAMPLES * STATES], file[WASNUGRAM_MODEL_FILE(STATES, SYMBOLS, 0)];
 static wasnugram_answer answer;
 
-/* The four tables and the samples, each with its length. */
-#define MODEL                                                                                                          \
-    shape, transition, WASNUGRAM_MODEL_TRANSITION(shape.states), emission,                                             \
-        WASNUGRAM_MODEL_EMISSION(shape.states, SYMBOLS), initial, WASNUGRAM_MODEL_INITIAL(shape.states), end,          \
-        WASNUGRAM_MODEL_END(shape.states), samples, samples_length
+/* Four tables of a model, each with its length; and the model's own with the samples. */
+#define TABLES(transition, emission, initial, end)                                                                     \
+    transition, WASNUGRAM_MODEL_TRANSITION(shape.states), emission, WASNUGRAM_MODEL_EMISSION(shape.states, SYMBOLS),   \
+        initial, WASNUGRAM_MODEL_INITIAL(shape.states), end, WASNUGRAM_MODEL_END(shape.states)
+#define MODEL shape, TABLES(transition, emission, initial, end), samples, samples_length
 
 static void nothing(void) {}
 
@@ -51,9 +51,20 @@ static void backward(void) {
 
 static void baum_welch(void) {
     size_t cells = shape.states * samples_length;
-    answer = wasnugram_baum_welch(MODEL, new_transition, shape.states * shape.states, new_emission, shape.states * SYMBOLS,
-                                  new_initial, shape.states, new_end, shape.states, alpha, cells, beta, cells);
+    answer = wasnugram_baum_welch(MODEL, TABLES(new_transition, new_emission, new_initial, new_end), alpha, cells, beta, cells);
 }
+
+static void write_model(void) {
+    size_t length = WASNUGRAM_MODEL_FILE(shape.states, SYMBOLS, 0);
+    answer = wasnugram_write_model(shape, TABLES(transition, emission, initial, end), file, length);
+}
+
+static void read_model(void) {
+    size_t length = WASNUGRAM_MODEL_FILE(shape.states, SYMBOLS, 0);
+    answer = wasnugram_read_model(file, length, TABLES(new_transition, new_emission, new_initial, new_end)).answer;
+}
+
+static void model_file_length(void) { answer.place = wasnugram_model_file_length(shape); }
 
 static void exp_kernel(void) { answer = wasnugram_exp(-1.25); }
 static void ln_kernel(void) { answer = wasnugram_ln(0.3); }
@@ -73,6 +84,9 @@ static const struct {
     { "`forward`", forward },
     { "`backward`", backward },
     { "`baum_welch`", baum_welch },
+    { "`write_model`", write_model },
+    { "`read_model`", read_model },
+    { "`model_file_length`", model_file_length },
     { "`exp`", exp_kernel },
     { "`ln`", ln_kernel },
     { "`ln_one_minus_exp`", ln_one_minus_exp },
@@ -115,9 +129,11 @@ static size_t used(void (*call)(void), unsigned char paint) {
     return answer.refusal == WASNUGRAM_DONE ? run.used : STACK;
 }
 
+/* The greater mark of a call's two paints. The reader has a file of this shape. */
 static size_t mark(void (*call)(void), size_t states, size_t length) {
     shape = (wasnugram_shape){ states, SYMBOLS, 0 };
     samples_length = length;
+    write_model();
     size_t first = used(call, 0xa5), second = used(call, 0x5a);
     return first > second ? first : second;
 }

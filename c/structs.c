@@ -21,13 +21,12 @@ static wasnugram_answer note(wasnugram_shape shape, const struct slice *slices, 
     return ANSWER;
 }
 
-#define MODEL                                                                                                                \
+#define TABLES                                                                                                               \
     wasnugram_shape shape, const double *transition, size_t transition_length, const double *emission,                       \
-        size_t emission_length, const double *initial, size_t initial_length, const double *end, size_t end_length,          \
-        const uint16_t *samples, size_t samples_length
-#define MODEL_SLICES                                                                                                         \
-    { transition, transition_length }, { emission, emission_length }, { initial, initial_length }, { end, end_length },      \
-    { samples, samples_length }
+        size_t emission_length, const double *initial, size_t initial_length, const double *end, size_t end_length
+#define MODEL TABLES, const uint16_t *samples, size_t samples_length
+#define TABLE_SLICES { transition, transition_length }, { emission, emission_length }, { initial, initial_length }, { end, end_length }
+#define MODEL_SLICES TABLE_SLICES, { samples, samples_length }
 
 wasnugram_answer wasnugram_viterbi(
     MODEL, uint8_t *path, size_t path_length, double *values, size_t values_length, uint8_t *from, size_t from_length) {
@@ -55,6 +54,23 @@ wasnugram_answer wasnugram_baum_welch(
     return note(shape, slices, sizeof slices / sizeof slices[0]);
 }
 
+wasnugram_answer wasnugram_write_model(TABLES, uint8_t *file, size_t file_length) {
+    struct slice slices[] = { TABLE_SLICES, { file, file_length } };
+    return note(shape, slices, sizeof slices / sizeof slices[0]);
+}
+
+/* What the reader that stands in gives. */
+static wasnugram_reading given;
+
+wasnugram_reading wasnugram_read_model(
+    const uint8_t *file, size_t file_length, double *transition, size_t transition_length, double *emission, size_t emission_length,
+    double *initial, size_t initial_length, double *end, size_t end_length) {
+    struct slice slices[] = { TABLE_SLICES, { file, file_length } };
+    given.answer = note(given.shape, slices, sizeof slices / sizeof slices[0]);
+    given.answer.refusal = given.shape.states ? WASNUGRAM_DONE : ANSWER.refusal;
+    return given;
+}
+
 /* Only their addresses matter. */
 static double table[4], number[6];
 static uint8_t byte[2];
@@ -65,15 +81,36 @@ static int is_slice(struct slice a, const void *entries, size_t length) {
     return a.entries == entries && a.length == length;
 }
 
-/* Whether the answer is handed on, and the model and these samples and outputs were lent. */
-static int lends(wasnugram_answer a, const uint16_t *lent_samples, size_t samples_length, const struct slice *outputs, size_t length) {
+static int is_shape(wasnugram_shape a, wasnugram_shape b) {
+    return a.states == b.states && a.symbols == b.symbols && a.ends == b.ends;
+}
+
+/* Whether the answer is handed on, and four tables of a model, or of room for one, and these bytes or samples were lent after them. */
+static int lends_tables(wasnugram_answer a, uint8_t refusal, const double *tables, const void *entries, size_t length) {
     static const size_t needed[] = { S * S, S * M, S, S };
-    int so = a.refusal == ANSWER.refusal && a.table == ANSWER.table && a.place == ANSWER.place && a.value == ANSWER.value;
-    so &= noted_shape.states == S && noted_shape.symbols == M && noted_shape.ends == 1 && noted_length == 5 + length;
-    so &= is_slice(noted[4], lent_samples, samples_length);
-    for (size_t i = 0; i < 4; i++) so &= is_slice(noted[i], &table[i], needed[i]);
+    int so = a.refusal == refusal && a.table == ANSWER.table && a.place == ANSWER.place && a.value == ANSWER.value;
+    for (size_t i = 0; i < 4; i++) so &= is_slice(noted[i], &tables[i], needed[i]);
+    return so && is_slice(noted[4], entries, length);
+}
+
+/* Whether the answer is handed on, and the model and these samples and outputs were lent. */
+static int lends(wasnugram_answer a, const void *lent_samples, size_t samples_length, const struct slice *outputs, size_t length) {
+    int so = lends_tables(a, ANSWER.refusal, table, lent_samples, samples_length) && is_shape(noted_shape, model.shape);
     for (size_t i = 0; i < length; i++) so &= is_slice(noted[5 + i], outputs[i].entries, outputs[i].length);
-    return so;
+    return so && noted_length == 5 + length;
+}
+
+/* Whether the room and the file are lent to the reader, and the model is in the room where that is done and as it was where it is not. */
+static int reads(wasnugram_shape shape) {
+    const wasnugram_model_room room = { S, M, &number[0], &number[1], &number[2], &number[3] };
+    wasnugram_model read = model;
+    given.shape = shape;
+    wasnugram_answer a = wasnugram_read_model_of(byte, ROOM, &room, &read);
+    int is_done = shape.states != 0;
+    const double *tables = is_done ? number : table;
+    return lends_tables(a, is_done ? WASNUGRAM_DONE : ANSWER.refusal, number, byte, ROOM) && noted_length == 5 &&
+           is_shape(read.shape, is_done ? shape : model.shape) && read.transition == &tables[0] && read.emission == &tables[1] &&
+           read.initial == &tables[2] && read.end == &tables[3];
 }
 
 int main(void) {
@@ -89,6 +126,8 @@ int main(void) {
     so &= lends(wasnugram_forward_of(&model, samples, T, &values), samples, T, &path_slices[1], 1);
     so &= lends(wasnugram_backward_of(&model, samples, T, &values), samples, T, &path_slices[1], 1);
     so &= lends(wasnugram_baum_welch_of(&model, samples, T, &pass), samples, T, pass_slices, 6);
+    so &= lends(wasnugram_write_model_of(&model, byte, ROOM), byte, ROOM, NULL, 0);
+    so &= reads((wasnugram_shape){ 1, S, 0 }) && reads((wasnugram_shape){ 0, 0, 0 });
     if (!so) printf("a form that takes structs lends something else\n");
     return !so;
 }

@@ -1,7 +1,8 @@
 /* Wasnugram: a hidden-Markov decoder whose every answer is proved. This header is the manual.
  *
  * LENGTHS COUNT ENTRIES, NEVER BYTES. Each buffer is a pointer and a length. A table of 24 doubles has the length 24, not sizeof. A call
- * believes its lengths: one that is too large makes it read and write what is not yours. The macros below give every length.
+ * believes its lengths: one that is too large makes it read and write what is not yours. The macros below give every length. (A model
+ * file is a buffer of bytes: its entries are its bytes.)
  *
  * Linking. `rt staticlib wasnugram` builds target/staticlib/libwasnugram.a, for x86-64 Linux and the System V calling convention: the
  * kit builds for no other processor. The archive needs memcpy and memset and nothing else: no heap, no statics, no libc.
@@ -13,13 +14,15 @@
  * Threads and interrupts. A call keeps nothing, so it may run beside any other, in a thread or a signal handler, as long as nothing that
  * one of them writes is lent to another. An interrupt handler saves the floating-point registers before it calls.
  *
- * Memory. The caller lends everything. A pointer may be null only where its length is 0. Doubles are aligned to 8 bytes, uint16_t to 2.
+ * Memory. The caller lends everything. A pointer may be null only where its length is 0. Doubles are aligned to 8 bytes, uint16_t to 2; a
+ * model file may lie at any address.
  * An output may not overlap another output or an input; inputs may overlap each other. Inputs are never written: they may lie in ROM.
  * Nothing is read or written past a length. An output may be longer than needed: its surplus never changes.
  *
- * Flipped bits. Each call checks every entry before it decodes. A flip that makes an entry NaN or lifts it above 0 is refused; one between
- * that check and the entry's use is seen by the next call only. A flip that leaves an entry at most 0 makes another good model, which no
- * call can tell: keep a checksum of the tables beside them.
+ * Flipped bits. Keep the model as a model file and read it at power-up (wasnugram_read_model): the reader is proved to refuse the file with
+ * any single bit flipped, wherever it is. After that the tables are in RAM. Each call checks every entry before it decodes. A flip that
+ * makes an entry NaN or lifts it above 0 is refused; one between that check and the entry's use is seen by the next call only. A flip that
+ * leaves an entry at most 0 makes another good model, which no call can tell: read the file again from time to time.
  *
  * A model of S states and M symbols is four tables of doubles, natural logarithms of probabilities, each at most 0 and not NaN
  * (-0.0 and minus infinity are good):
@@ -29,11 +32,12 @@
  *   table 2  initial     S entries
  *   table 3  end         S entries     entry j: from state j to the end state; without one every entry must be +0.0
  *
- * S is 1 to 64, M 1 to 256. Table 4 is the samples, T of them, 0 to 4,096, each below M. Outputs are numbered from 5 in argument order.
+ * S is 1 to 64, M 1 to 256. Table 4 is the samples, T of them, 0 to 4,096, each below M. What else is lent is numbered from 5 in argument
+ * order: outputs, but that the reader's 5 is the file that it reads.
  *
  * Answers. `refusal` is WASNUGRAM_DONE, or it says what is wrong; then `table` and `place` say where, `value` is minus infinity, and
  * nothing that was lent has changed (WASNUGRAM_ZERO_MASS clears scratch). Checks run in the order of their numbers, tables and outputs
- * by number, places upward; the first fault answers.
+ * by number, places upward; the first fault answers. The reader alone has another order, since it looks at the whole file first.
  *
  * DONE WITH MINUS INFINITY MEANS THAT NO PATH EXPLAINS THE SAMPLES, the way out included where there is an end state. The path that was
  * written means nothing then: charge no fare from it. Ask wasnugram_is_possible before you use a path.
@@ -119,6 +123,55 @@
  * It prints:
  *
  *     the emission of symbol 1 in state 1 is damaged
+ *
+ * Example 3. The model is kept as a model file in flash. At power-up it is read into tables, and a passage is decoded; then a bit flips:
+ *
+ *     #include <stdio.h>
+ *     #include "wasnugram.h"
+ *
+ *     enum { S = 2, M = 2, T = 3 };
+ *     static uint8_t flash[WASNUGRAM_MODEL_FILE(S, M, 0)];
+ *
+ *     static double transition[WASNUGRAM_MODEL_TRANSITION(S)], emission[WASNUGRAM_MODEL_EMISSION(S, M)];
+ *     static double initial[WASNUGRAM_MODEL_INITIAL(S)], end[WASNUGRAM_MODEL_END(S)];
+ *     static const wasnugram_model_room room = { S, M, transition, emission, initial, end };
+ *
+ *     static int write_flash(void) {
+ *         static const double two[] = { -1, -2, -2, -1 }, three[] = { -1, -3, -3, -1 }, one[] = { -1, -2 }, none[] = { 0, 0 };
+ *         const wasnugram_model model = { { S, M, 0 }, two, three, one, none };
+ *         return wasnugram_write_model_of(&model, flash, sizeof flash).refusal == WASNUGRAM_DONE;
+ *     }
+ *
+ *     static void power_up(void) {
+ *         const uint16_t samples[T] = { 0, 1, 1 };
+ *         uint8_t path[WASNUGRAM_VITERBI_PATH(T)], from[WASNUGRAM_VITERBI_FROM(S, T)];
+ *         double values[WASNUGRAM_VITERBI_VALUES(S, T)];
+ *         const wasnugram_viterbi_outputs outputs = { T, path, values, from };
+ *         wasnugram_model model;
+ *         wasnugram_answer a = wasnugram_read_model_of(flash, sizeof flash, &room, &model);
+ *         if (a.refusal != WASNUGRAM_DONE) {
+ *             printf("the model file is damaged: refusal %d, table %d, place %zu\n", a.refusal, a.table, a.place);
+ *             return;
+ *         }
+ *         a = wasnugram_viterbi_of(&model, samples, T, &outputs);
+ *         if (wasnugram_is_possible(a)) printf("value %g, last state %d\n", a.value, path[T - 1]);
+ *     }
+ *
+ *     int main(void) {
+ *         if (!write_flash()) return 1;
+ *         power_up();
+ *         flash[88] ^= 1; // the lowest bit of the body of table 1
+ *         power_up();
+ *         flash[12] ^= 1; // and one of the contents, which comes first in the file
+ *         power_up();
+ *         return 0;
+ *     }
+ *
+ * It prints:
+ *
+ *     value -7, last state 1
+ *     the model file is damaged: refusal 14, table 1, place 0
+ *     the model file is damaged: refusal 13, table 0, place 12
  */
 #ifndef WASNUGRAM_H
 #define WASNUGRAM_H
@@ -145,6 +198,13 @@ extern "C" {
 #define WASNUGRAM_MODEL_EMISSION(S, M) ((size_t)(S) * (size_t)(M))
 #define WASNUGRAM_MODEL_INITIAL(S) ((size_t)(S))
 #define WASNUGRAM_MODEL_END(S) ((size_t)(S))
+
+/* How many bytes a model file has, where ENDS is as in the shape: 8, and 16 for each table of the file, and 8 for each entry of those. An
+ * end table is in the file only with an end state. S is 1 to 64 and M 1 to 256: wasnugram_model_file_length gives 0 for any other shape. */
+#define WASNUGRAM_MODEL_FILE(S, M, ENDS) \
+    ((size_t)((ENDS) ? 72 : 56) + \
+     8 * (WASNUGRAM_MODEL_TRANSITION(S) + WASNUGRAM_MODEL_EMISSION(S, M) + WASNUGRAM_MODEL_INITIAL(S) + \
+          ((ENDS) ? WASNUGRAM_MODEL_END(S) : 0)))
 
 /* Outputs have at least so many entries. */
 #define WASNUGRAM_VITERBI_PATH(T) ((size_t)(T))
@@ -175,7 +235,9 @@ typedef enum {
     WASNUGRAM_UNKNOWN_SYMBOL = 8,       /* a sample is M or more: table 4, the first such place */
     WASNUGRAM_ZERO_MASS = 9,            /* a training pass meets zero mass: place the state, or S for the whole */
     WASNUGRAM_NEGATIVE_DIFFERENCE = 10, /* wasnugram_ln_sub_exp with p0 < p1 */
-    WASNUGRAM_OVERSHOOT = 11            /* wasnugram_cap_numerical_overshoot: above 0 by more than epsilon, or a NaN */
+    WASNUGRAM_OVERSHOOT = 11,           /* wasnugram_cap_numerical_overshoot: above 0 by more than epsilon, or a NaN */
+    WASNUGRAM_BAD_LAYOUT = 13,          /* no model file: place the first wrong byte, or the shorter length if the length is wrong */
+    WASNUGRAM_BAD_SUM = 14              /* a body of a model file has another sum than the file says: its table, place 0 */
 } wasnugram_refusal;
 
 /* What an answer's `table` says of a call on a model: these, or an output's number, from 5. */
@@ -190,15 +252,21 @@ typedef enum {
 typedef struct {
     size_t states;
     size_t symbols;
-    uint8_t ends; /* 0: no end state; anything else: an end state */
+    uint8_t ends; /* 0: no end state; anything else: an end state; the reader gives 0 or 1 */
 } wasnugram_shape;
 
 typedef struct {
     uint8_t refusal; /* a wasnugram_refusal */
     uint8_t table;   /* a wasnugram_table, or an output's number; 0 where none is named */
-    size_t place;    /* counts entries; 0 where none is named */
+    size_t place;    /* counts entries, and a model file's bytes; 0 where none is named */
     double value;
 } wasnugram_answer;
+
+/* What the reader of a model file gives. */
+typedef struct {
+    wasnugram_answer answer;
+    wasnugram_shape shape; /* the shape of the model that was read; where the reader refuses, 0 states, 0 symbols and no end state */
+} wasnugram_reading;
 
 /* Whether a call is done and its value is above minus infinity: only then does a path explain the samples. It looks at the value's bits,
  * so that -ffast-math in the code that asks does not mislead it. */
@@ -289,6 +357,45 @@ wasnugram_answer wasnugram_baum_welch(
     double *alpha, size_t alpha_length,
     double *beta, size_t beta_length);
 
+/* How many bytes the model file of this shape has; 0 where S is not 1 to 64 or M not 1 to 256. */
+size_t wasnugram_model_file_length(wasnugram_shape shape);
+
+/* Reads a model file, whose bytes docs/MODEL-FILE.md gives. Writes, all lengths in entries, of the file in bytes:
+ *
+ *   input 5   file        exactly as many bytes as its model needs
+ *   output 6  transition  S*S
+ *   output 7  emission    S*M
+ *   output 8  initial     S
+ *   output 9  end         S    +0.0 where the model has no end state
+ *
+ * S, M and the end flag come from the file, so a caller who does not know them lends tables for the most that it takes. The value is +0.0.
+ *
+ * The checks, in this order: fewer than 8 bytes are refused with 13; then 1 and 2; 13, where any byte but those of the sums and bodies is
+ * another than this S, M and flag ask for, or the length is; 14, tables upward; 6, a table is lent too short; 7, a word of a body is no
+ * good entry: its table from 0 to 3, the place in it. Nothing is written before the last check is passed.
+ *
+ * It is proved that a file that is written is read as it was, bit for bit, that two files that are read alike are the same bytes, and
+ * that a file with a bit flipped, bytes cut off or bytes added is refused. Two flipped bits may cancel in a sum. */
+wasnugram_reading wasnugram_read_model(
+    const uint8_t *file, size_t file_length,
+    double *transition, size_t transition_length,
+    double *emission, size_t emission_length,
+    double *initial, size_t initial_length,
+    double *end, size_t end_length);
+
+/* Writes a model file. The length of the file is in bytes:
+ *
+ *   output 5  file  wasnugram_model_file_length(shape), which is WASNUGRAM_MODEL_FILE(S, M, ENDS)
+ *
+ * The value is +0.0. Checks 1, 2, 5, 6 and 7, as in every call on a model. Without an end state the file has no end table. */
+wasnugram_answer wasnugram_write_model(
+    wasnugram_shape shape,
+    const double *transition, size_t transition_length,
+    const double *emission, size_t emission_length,
+    const double *initial, size_t initial_length,
+    const double *end, size_t end_length,
+    uint8_t *file, size_t file_length);
+
 /* The kernels: exp(d) for d at most 0, ln(x) for x at least 0; and ln(1 - exp(p)) for p at most 0. Else 7, table 0, place 0. */
 wasnugram_answer wasnugram_exp(double d);
 wasnugram_answer wasnugram_ln(double x);
@@ -316,6 +423,16 @@ typedef struct {
     const double *initial;    /* WASNUGRAM_MODEL_INITIAL(states) entries */
     const double *end;        /* WASNUGRAM_MODEL_END(states) entries */
 } wasnugram_model;
+
+/* Tables for the reader, with room for a model of so many states and symbols. A model that needs more is refused with 6. */
+typedef struct {
+    size_t states;
+    size_t symbols;
+    double *transition; /* WASNUGRAM_MODEL_TRANSITION(states) entries */
+    double *emission;   /* WASNUGRAM_MODEL_EMISSION(states, symbols) entries */
+    double *initial;    /* WASNUGRAM_MODEL_INITIAL(states) entries */
+    double *end;        /* WASNUGRAM_MODEL_END(states) entries */
+} wasnugram_model_room;
 
 /* Outputs with room for so many samples of the model that they are lent with. More samples than that are refused with 6. */
 typedef struct {
@@ -409,6 +526,38 @@ static inline wasnugram_answer wasnugram_baum_welch_of(
         outputs->new_end, WASNUGRAM_BAUM_WELCH_NEW_END(states),
         outputs->alpha, WASNUGRAM_BAUM_WELCH_ALPHA(states, room),
         outputs->beta, WASNUGRAM_BAUM_WELCH_BETA(states, room));
+}
+
+/* wasnugram_read_model into a room. Once it is done, *model has the shape that was read and lies in the room's tables; where it refuses,
+ * *model and the tables are as they were. file_length counts bytes. */
+static inline wasnugram_answer wasnugram_read_model_of(
+    const uint8_t *file, size_t file_length, const wasnugram_model_room *room, wasnugram_model *model) {
+    wasnugram_reading reading = wasnugram_read_model(
+        file, file_length,
+        room->transition, WASNUGRAM_MODEL_TRANSITION(room->states),
+        room->emission, WASNUGRAM_MODEL_EMISSION(room->states, room->symbols),
+        room->initial, WASNUGRAM_MODEL_INITIAL(room->states),
+        room->end, WASNUGRAM_MODEL_END(room->states));
+    if (reading.answer.refusal == WASNUGRAM_DONE) {
+        model->shape = reading.shape;
+        model->transition = room->transition;
+        model->emission = room->emission;
+        model->initial = room->initial;
+        model->end = room->end;
+    }
+    return reading.answer;
+}
+
+/* wasnugram_write_model of a model. file_length counts bytes. */
+static inline wasnugram_answer wasnugram_write_model_of(const wasnugram_model *model, uint8_t *file, size_t file_length) {
+    size_t states = model->shape.states;
+    return wasnugram_write_model(
+        model->shape,
+        model->transition, WASNUGRAM_MODEL_TRANSITION(states),
+        model->emission, WASNUGRAM_MODEL_EMISSION(states, model->shape.symbols),
+        model->initial, WASNUGRAM_MODEL_INITIAL(states),
+        model->end, WASNUGRAM_MODEL_END(states),
+        file, file_length);
 }
 
 #ifdef __cplusplus
