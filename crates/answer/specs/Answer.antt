@@ -8,7 +8,7 @@ use Rattle.answer.specs.declared.Answer.{Answer}
 use Rattle.answer.specs.declared.Refusal.{Refusal}
 use Rattle.answer.specs.declared.Refusal.the-variants.{Done, BadStates, BadSymbols, TooManySamples, NoSamples, WrongLength}
 use Rattle.answer.specs.declared.Refusal.the-variants.{OutputTooShort, NotGood, UnknownSymbol, ZeroMass, NegativeDifference}
-use Rattle.answer.specs.declared.Refusal.the-variants.{Overshoot, BadLayout, BadSum}
+use Rattle.answer.specs.declared.Refusal.the-variants.{Overshoot, BadLayout, BadSum, NoRival, BadIndex}
 
 -- RULES 3.2: the number of each refusal
 abbrev pub numberOf : Refusal → ℕ
@@ -26,6 +26,8 @@ numberOf NegativeDifference = 10
 numberOf Overshoot = 11
 numberOf BadLayout = 13
 numberOf BadSum = 14
+numberOf NoRival = 15
+numberOf BadIndex = 16
 
 -- RULES 3.1: a call that is done names no table and no place
 abbrev pub done : Float → Answer

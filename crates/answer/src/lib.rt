@@ -35,6 +35,10 @@ pub enum Refusal {
     BadLayout,
     // 14: a sum of a model file is not that of its body.
     BadSum,
+    // 15: every path with another state at the sample scores minus infinity.
+    NoRival,
+    // 16: the sample that is asked for is T or more.
+    BadIndex,
 }
 
 // What every public call gives back, by value.
@@ -64,6 +68,8 @@ pub fn number(refusal: Refusal) -> u8
         Refusal::Overshoot => 11,
         Refusal::BadLayout => 13,
         Refusal::BadSum => 14,
+        Refusal::NoRival => 15,
+        Refusal::BadIndex => 16,
     }
 }
 

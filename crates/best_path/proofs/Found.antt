@@ -26,6 +26,18 @@ module _ (m : Model) (n : ℕ) (some : 0 < m .states) (sample : 0 < n) where
   last-time : n - 1 < n
   last-time = omega arith
 
+  -- ---- the last row
+  module _ (row : List Float) (is : row ≡ tab (m .states) (value m (n - 1))) where
+    pub last-found : (j : ℕ) → j ≡ greatest (length row) (λ (k : ℕ). ended (m .ends) (m .end k) (at row k)) → j ≡ lastState m (n - 1)
+    last-found j e = e ∙ last-in-row m (n - 1) row is
+
+    pub value-found : (j : ℕ) → j ≡ lastState m (n - 1) → ended (m .ends) (m .end j) (at row j) ≡ bestValue m n
+    value-found j e =
+        let h : j < m .states = rw e (last-below m some (n - 1)) in
+        ap (ended (m .ends) (m .end j)) (at-row m (n - 1) row is j h)
+        ∙ ap (λ (k : ℕ). closed m k (value m (n - 1) k)) e
+        ∙ sym (value-of m n sample)
+
   -- ---- a table of values
   module _ (was is : List Float) (laid : is ≡ over 0 (table n (m .states) (value m)) was) where
     -- the last row, as a slice from its start to its stop reads it
@@ -36,16 +48,6 @@ module _ (m : Model) (n : ℕ) (some : 0 < m .states) (sample : 0 < n) where
     last-row =
         rw (add-sub-cancel-left lastStart (m .states))
         (row-in n (n - 1) (m .states) _ was is (λ (t : ℕ). length-tab (m .states) _) laid last-time)
-
-    pub last-found : (j : ℕ) → j ≡ greatest (length lastRow) (λ (k : ℕ). ended (m .ends) (m .end k) (at lastRow k)) → j ≡ lastState m (n - 1)
-    last-found j e = e ∙ last-in-row m (n - 1) _ last-row
-
-    pub value-found : (j : ℕ) → j ≡ lastState m (n - 1) → ended (m .ends) (m .end j) (at lastRow j) ≡ bestValue m n
-    value-found j e =
-        let h : j < m .states = rw e (last-below m some (n - 1)) in
-        ap (ended (m .ends) (m .end j)) (at-row m (n - 1) _ last-row j h)
-        ∙ ap (λ (k : ℕ). closed m k (value m (n - 1) k)) e
-        ∙ sym (value-of m n sample)
 
   -- ---- a table of predecessors
   module _ (was is : List ℕ) (laid : is ≡ over 0 (table n (m .states) (from m)) was) where

@@ -64,7 +64,7 @@ module _ (n : ℕ) (h : Model) (some : 0 < h .states) (low : Low h (suc n)) wher
   pub values-capped : (t j : ℕ) → t ≤ n → j < h .states → T (capped (value h t j))
   values-capped t j l s = value-capped (suc n) h some low t j (suc-le-suc l) s
 
-  rule : (t j : ℕ) → t < n → j < h .states → (b k : ℕ) → b < h .states → k < h .states
+  pub rule : (t j : ℕ) → t < n → j < h .states → (b k : ℕ) → b < h .states → k < h .states
       → ranksAtLeast (value h t b) (h .transition b j) (value h t k) (h .transition k j) ≡ leb (ranks h t j b) (ranks h t j k)
   unfolding ranks
   rule t j l s b k i q =
@@ -91,7 +91,7 @@ module _ (n : ℕ) (h : Model) (some : 0 < h .states) (low : Low h (suc n)) wher
   pub last-placed : (j : ℕ) → j < h .states → Placed (closed h j (value h n j))
   last-placed j s = ended-placed (h .ends) (h .end j) (value h n j) (end-capped j s) (values-capped n j (le-refl n) s) (value-placed n j (le-refl n) s)
 
-  last-rule : (b k : ℕ) → b < h .states → k < h .states
+  pub last-rule : (b k : ℕ) → b < h .states → k < h .states
       → le (closed h b (value h n b)) (closed h k (value h n k)) ≡ leb (lastRanks h n b) (lastRanks h n k)
   unfolding lastRanks
   last-rule b k i q = le-place _ _ (last-placed b i) (last-placed k q)

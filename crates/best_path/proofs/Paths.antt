@@ -22,17 +22,18 @@ module _ (from : ℕ → ℕ → ℕ) where
   path-end zero j = refl
   path-end (suc t) j = getD-at (pathTo from t (from (suc t) j)) j [] 0 (suc t) (path-length t (from (suc t) j))
 
-  before : (t j u : ℕ) → u ≤ t → stateAt (pathTo from (suc t) j) u ≡ stateAt (pathTo from t (from (suc t) j)) u
+  -- what is before the end is the path to the state before it
+  pub path-before : (t j u : ℕ) → u ≤ t → stateAt (pathTo from (suc t) j) u ≡ stateAt (pathTo from t (from (suc t) j)) u
   unfolding pathTo
-  before t j u h = List·getD-append (pathTo from t (from (suc t) j)) (j ∷ []) 0 u (omega (arith, path-length t (from (suc t) j)))
+  path-before t j u h = List·getD-append (pathTo from t (from (suc t) j)) (j ∷ []) 0 u (omega (arith, path-length t (from (suc t) j)))
 
   pub path-follows : (t j u : ℕ) → u < t → stateAt (pathTo from t j) u ≡ from (suc u) (stateAt (pathTo from t j) (suc u))
   path-follows zero j u h = absurd (not-suc-le-zero h)
   path-follows (suc t) j u h =
-      before t j u (le-of-suc-le-suc h)
+      path-before t j u (le-of-suc-le-suc h)
       ∙ ⊎-elim
       (λ (e : u ≡ t). rw e (path-end t (from (suc t) j) ∙ ap (from (suc t)) (sym (path-end (suc t) j))))
-      (λ (l : u < t). path-follows t (from (suc t) j) u l ∙ ap (from (suc u)) (sym (before t j (suc u) l)))
+      (λ (l : u < t). path-follows t (from (suc t) j) u l ∙ ap (from (suc u)) (sym (path-before t j (suc u) l)))
       (eq-or-lt-of-le (le-of-suc-le-suc h))
 
   -- every state is below S where every predecessor and the last state are

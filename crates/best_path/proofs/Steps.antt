@@ -1,10 +1,10 @@
 -- Rows in memory meet the recurrences: the first row, and what is worked out from the row of time t is the row of time t + 1.
-use Prim.Native.Nat.{ℕ, zero, suc, _*_, _-_, _<_}
+use Prim.Native.Nat.{ℕ, zero, suc, _-_, _<_}
 use mathlib.Core.Path.{_≡_, refl, ap, _∙_}
 use mathlib.Core.Bool.{Bool}
 use mathlib.Core.List.{List}
 use native.Mathlib.Numerals.{sub-one}
-use native.Mathlib.Nat.{not-suc-le-zero, zero-mul}
+use native.Mathlib.Nat.{not-suc-le-zero}
 use native.Mathlib.Omega.{arith}
 use lib.ListN.{length, getD}
 use lib.Ieee.{Float}
@@ -17,7 +17,7 @@ use Rattle.emission.proofs.FirstRow.{first-row-is}
 use Rattle.best_path.specs.Best.{predecessor, greatest}
 use Rattle.best_path.specs.Walk.{cell, ended, closed, pathTo, value, from, lastState, bestPath, bestValue}
 use Rattle.best_path.specs.inner.Step.{nextFrom, nextValue, Ranked, Stepped}
-use Rattle.best_path.specs.inner.Rows.{firstFrom, RowStored}
+use Rattle.best_path.specs.inner.Row.{firstFrom, RowStored}
 use Rattle.best_path.proofs.Best.{best-below, best-same}
 
 -- ---- what is asked of a row is asked below S only
@@ -80,31 +80,28 @@ module _ (states : ℕ) (transition initial : List Float) (e : ℕ → ℕ → F
 
 -- ---- the row of time t, stored at its place
 module _ (states : ℕ) (transition initial emissions : List Float) (values values' : List Float) (from₀ from' : List ℕ) where
-  pub first-stored : (t : ℕ) → t ≡ 0 → length initial ≡ states
+  pub first-stored : (t source target : ℕ) → t ≡ 0 → target ≡ 0 → length initial ≡ states
       → values' ≡ over 0 (firstRow initial emissions) values → from' ≡ over 0 (firstFrom states) from₀
-      → RowStored states transition initial emissions t values values' from₀ from'
+      → RowStored states transition initial emissions t source target values values' from₀ from'
   unfolding value from
-  first-stored t z long v f e ends end is before =
+  first-stored t source target z front long v f e ends end is before =
       let m = tabled states transition initial e ends end in
       let first : emissions ≡ tab states (e 0) = is ∙ ap (λ (u : ℕ). tab states (e u)) z in
       let row = first-row-is m initial emissions long refl first in
-      rw (z, zero-mul states) (record { valuesStored = v ∙ ap (λ (p : List Float). over 0 p values) row; fromStored = f })
+      rw (z, front) (record { valuesStored = v ∙ ap (λ (p : List Float). over 0 p values) row; fromStored = f })
 
-  pub next-stored : (t : ℕ) → 0 < t → 0 < states
-      → Stepped states transition emissions ((t - 1) * states) (t * states) values values' from₀ from'
-      → RowStored states transition initial emissions t values values' from₀ from'
-  next-stored zero h some s e ends end is before = absurd (not-suc-le-zero h)
-  next-stored (suc t) h some s e ends end is before =
+  pub next-stored : (t source target : ℕ) → 0 < t → 0 < states
+      → Stepped states transition emissions source target values values' from₀ from'
+      → RowStored states transition initial emissions t source target values values' from₀ from'
+  next-stored zero source target h some s e ends end is before = absurd (not-suc-le-zero h)
+  next-stored (suc t) source target h some s e ends end is before =
       let row = rw (sub-one (suc t)) at (before h) in
-      let s' = rw (sub-one (suc t)) at s in
       record {
         valuesStored =
-            s' .valuesStored
-            ∙ ap (λ (p : List Float). over (suc t * states) p values)
-            (next-values states transition initial e ends end some t _ row emissions is);
+            s .valuesStored
+            ∙ ap (λ (p : List Float). over target p values) (next-values states transition initial e ends end some t _ row emissions is);
         fromStored =
-            s' .fromStored
-            ∙ ap (λ (p : List ℕ). over (suc t * states) p from₀) (next-from states transition initial e ends end some t _ row);
+            s .fromStored ∙ ap (λ (p : List ℕ). over target p from₀) (next-from states transition initial e ends end some t _ row);
       }
 
 -- ---- of one sample or more

@@ -1,4 +1,4 @@
 -- What only inner functions ask and promise.
 pub mod Step
-pub mod Rows
+pub mod Row
 pub mod Back

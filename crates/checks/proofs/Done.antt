@@ -109,9 +109,9 @@ module _ (needsSample : Bool) (outputs : List Room) (l : Lent) where
   abbrev samples : Tests
   samples = sampleTests (M l) (l .samples)
 
-  refuse : Refuses (testsOf (l .tables) (passage needsSample outputs l))
+  pub passage-refuses : Refuses (testsOf (l .tables) (passage needsSample outputs l))
   unfolding testsOf sampleTests
-  refuse =
+  passage-refuses =
       refuse-both shape (count ++ (tables ++ (rooms ++ (entries ++ samples)))) (shape-refuses (l .tables .shape))
       (refuse-both count (tables ++ (rooms ++ (entries ++ samples))) (count-refuses needsSample (Memory.T l))
       (refuse-both tables (rooms ++ (entries ++ samples)) (rooms-refuse true 0 (tableRooms (l .tables)))
@@ -121,7 +121,8 @@ module _ (needsSample : Bool) (outputs : List Room) (l : Lent) where
   pub let-through : isDone (check needsSample outputs l) ≡ true → LetThrough needsSample outputs l
   unfolding testsOf sampleTests
   let-through h =
-      let a : Clear (shape ++ (count ++ (tables ++ (rooms ++ (entries ++ samples))))) = clear (testsOf (l .tables) (passage needsSample outputs l)) refuse h in
+      let a : Clear (shape ++ (count ++ (tables ++ (rooms ++ (entries ++ samples)))))
+      = clear (testsOf (l .tables) (passage needsSample outputs l)) passage-refuses h in
       let b = clear-right shape (count ++ (tables ++ (rooms ++ (entries ++ samples)))) a in
       let c = clear-right count (tables ++ (rooms ++ (entries ++ samples))) b in
       let d = clear-right tables (rooms ++ (entries ++ samples)) c in

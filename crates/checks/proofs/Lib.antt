@@ -7,3 +7,4 @@ pub mod Done
 pub mod FirstFault
 pub mod Tells
 pub mod Unsampled
+pub mod Left

@@ -17,11 +17,11 @@ use Rattle.gate_posts.specs.Files.{bodiesP, fileP, endE, fileE}
 use Rattle.gate_posts.specs.Table.{AllHold, gatePosts}
 use Rattle.gate_posts.proofs.Example.{holds}
 
-pub files : AllHold (drop 23 gatePosts)
+pub files : AllHold (drop 29 gatePosts)
 unfolding gatePosts minus bodiesP fileP endE fileE tab flat over firstBad little value bytes words total sum firstOf good goodEnd goodBits isPlusZero
     shapeTests roomTests entryTests testsOf size offset first label layout fileOf modelFile shapeOf bodyAt sumOf endAt pattern
     firstWrong layoutTests sumTests wordTests readTests flip ofBits ofInt toBits le isNan
 files =
-    let ending : AllHold (drop 27 gatePosts) = (holds _ refl refl, (holds _ refl refl, tt)) in
-    let spoiled : AllHold (drop 25 gatePosts) = (holds _ refl refl, (holds _ refl refl, ending)) in
+    let ending : AllHold (drop 33 gatePosts) = (holds _ refl refl, (holds _ refl refl, tt)) in
+    let spoiled : AllHold (drop 31 gatePosts) = (holds _ refl refl, (holds _ refl refl, ending)) in
     (holds _ refl refl, (holds _ refl refl, spoiled))

@@ -1,4 +1,4 @@
--- The two models of the gate-post examples (RULES 9), and the numbers that they are made of.
+-- The models of the gate-post examples (RULES 9), and the numbers that they are made of.
 use Prim.Native.Nat.{ℕ, zero, suc, _*_}
 use mathlib.Core.Bool.{Bool, true, false}
 use mathlib.Core.List.{List, [], _∷_}
@@ -51,3 +51,9 @@ modelZ = changedZ 2 nought
 -- model Z with -0.0 for each initial and emission entry, with an end state or without one
 abbrev pub minusZeros : Bool → List ℕ → Lent
 minusZeros ends = tablesZ ends 2 (neg nought) (neg nought)
+
+-- the model of one state and one symbol, every entry +0.0
+abbrev pub oneState : List ℕ → Lent
+oneState =
+    let alone = replicate 1 nought in
+    lent (record { states = 1; symbols = 1; ends = false }) alone alone alone alone

@@ -1,5 +1,5 @@
--- The 22 gate-post examples of RULES 9 (P1 to P6, E1 to E3, Z1 to Z4, K1, K2, S1, S2, F1 to F5) as a single table, `gatePosts`, with a
--- single statement, `GatePostsHold`: the definitions that the public calls promise give every one of them.
+-- The 28 gate-post examples of RULES 9 (P1 to P6, E1 to E3, Z1 to Z4, R1 to R6, K1, K2, S1, S2, F1 to F5) as a single table, `gatePosts`,
+-- with a single statement, `GatePostsHold`: the definitions that the public calls promise give every one of them.
 use Prim.Native.Nat.{ℕ, suc, _*_}
 use mathlib.Core.Path.{_≡_}
 use mathlib.Core.Bool.{true, false, cond}
@@ -11,7 +11,7 @@ use Rattle.floats.specs.Float.{nought, one, minusInfinity}
 use Rattle.lists.specs.Lists.{after}
 use Rattle.answer.specs.Answer.{done, refuse, isDone, answered}
 use Rattle.answer.specs.declared.Answer.{Answer}
-use Rattle.answer.specs.declared.Refusal.the-variants.{NotGood, UnknownSymbol, ZeroMass, BadLayout, BadSum}
+use Rattle.answer.specs.declared.Refusal.the-variants.{NotGood, UnknownSymbol, ZeroMass, BadLayout, BadSum, NoRival, BadIndex}
 use Rattle.kernels.specs.Calls.{expAnswer, lnAnswer}
 use Rattle.kernels.specs.Ln.{ln2}
 use Rattle.probs.specs.Calls.{lnSumExpAnswer, lnSubExpAnswer}
@@ -19,6 +19,8 @@ use Rattle.model.specs.Lent.{Tables, Lent, tablesOf, S, M, T}
 use Rattle.model.specs.Model.{modelOf}
 use Rattle.best_path.specs.Walk.{bestPath, bestValue}
 use Rattle.viterbi.specs.Call as Viterbi
+use Rattle.rival.specs.Call as Rival
+use Rattle.rival.specs.Call.{asked, without, rivalry}
 use Rattle.likelihood.specs.Call.{forwardAnswer, backwardAnswer}
 use Rattle.baum_welch.specs.Call as BaumWelch
 use Rattle.baum_welch.specs.Call.{massAnswer, walksOf}
@@ -27,12 +29,13 @@ use Rattle.model_file.specs.Reading.{shapeOf, modelIn}
 use Rattle.file_laws.specs.Flip.{flipped}
 use Rattle.model_file.specs.Call as ModelFile
 use Rattle.model_file.specs.Call.{noShape, readCheck, writeCheck}
-use Rattle.gate_posts.specs.Models.{minus, least, modelP, changedP, endingP, modelZ, changedZ, minusZeros}
+use Rattle.gate_posts.specs.Models.{minus, least, modelP, changedP, endingP, modelZ, changedZ, minusZeros, oneState}
 use Rattle.gate_posts.specs.Files.{fileP, fileE}
 
 -- a call; outputs have exactly the room that they need, but that of a file has a byte more
 pub data Call : Type 0 where
   viterbi : Lent → Call
+  rival : Lent → ℕ → Call
   forward : Lent → Call
   backward : Lent → Call
   baumWelch : Lent → Call
@@ -49,6 +52,9 @@ unwritten l = replicate (T l) 255
 
 abbrev pub viterbiOutputs : Lent → Viterbi.Outputs
 viterbiOutputs l = Viterbi.outputs (unwritten l) (replicate (T l * S l) nought) (replicate (T l * S l) 0)
+
+abbrev pub rivalOutputs : Lent → Rival.Outputs
+rivalOutputs l = Rival.outputs (unwritten l) (unwritten l) (replicate (T l * S l) nought) (replicate (T l * S l) 0)
 
 abbrev pub trainingOutputs : Lent → BaumWelch.Outputs
 trainingOutputs l =
@@ -69,6 +75,7 @@ fileOutput m = replicate (suc (fileLength (m .shape))) 0xa5
 -- what the call promises to answer
 abbrev pub answer : Call → Answer
 answer (viterbi l) = answered (Viterbi.checked l (viterbiOutputs l)) (bestValue (modelOf l) (T l))
+answer (rival l i) = rivalry (asked l i) (rivalOutputs l) .answer
 answer (forward l) = forwardAnswer l (T l * S l)
 answer (backward l) = backwardAnswer l (T l * S l)
 answer (baumWelch l) =
@@ -81,11 +88,32 @@ answer (lnSubExp x y) = lnSubExpAnswer x y
 answer (readModel file) = answered (readCheck file readingOutputs) nought
 answer (writeModel m) = answered (writeCheck m (fileOutput m)) nought
 
--- what the examples look at after a call: nothing, the bytes of a path or a file, or a model with its shape
+-- the state that the best path has at a sample, its value, and the bytes of both paths
+pub record Rivals : Type 0 where
+  pub chosen : ℕ
+  pub best : Float
+  pub path : List ℕ
+  pub rivalPath : List ℕ
+
+-- what the examples look at after a call: nothing, the bytes of a path or a file, a best path with its rival, or a model with its shape
 pub data Left : Type 0 where
   nothing : Left
   bytes : List ℕ → Left
+  rivals : Rivals → Left
   model : Tables → Left
+
+-- what a call of `rival` promises to tell beside its answer, and both paths that it promises to leave
+abbrev pub rivalsLeft : Lent → ℕ → Rivals
+rivalsLeft l i =
+    let q = asked l i in
+    let o = rivalOutputs l in
+    let isTold = isDone (Rival.checked q o) in
+    record {
+      chosen = rivalry q o .chosen;
+      best = rivalry q o .best;
+      path = after isTold (bestPath (modelOf l) (T l)) (unwritten l);
+      rivalPath = after isTold (bestPath (without q) (T l)) (unwritten l);
+    }
 
 -- the model that the reader promises to leave, with the shape that it gives
 abbrev pub modelLeft : List ℕ → Tables
@@ -101,6 +129,7 @@ modelLeft file =
 -- and what each call promises to leave
 abbrev pub left : Call → Left
 left (viterbi l) = bytes (after (isDone (Viterbi.checked l (viterbiOutputs l))) (bestPath (modelOf l) (T l)) (unwritten l))
+left (rival l i) = rivals (rivalsLeft l i)
 left (forward l) = nothing
 left (backward l) = nothing
 left (baumWelch l) = nothing
@@ -122,6 +151,16 @@ decodes l v p = record { call = viterbi l; answers = done v; leaves = bytes p }
 
 abbrev pub refuses : Lent → Answer → Example
 refuses l a = record { call = viterbi l; answers = a; leaves = bytes (unwritten l) }
+
+-- at sample i the best path p, of value b, has state s, and its strongest rival is r, of value v
+abbrev pub rivalled : Lent → ℕ → ℕ → Float → List ℕ → Float → List ℕ → Example
+rivalled l i s b p v r =
+    record { call = rival l i; answers = done v; leaves = rivals (record { chosen = s; best = b; path = p; rivalPath = r }) }
+
+abbrev pub unrivalled : Lent → ℕ → Answer → Example
+unrivalled l i a =
+    let untold : Rivals = record { chosen = 0; best = minusInfinity; path = unwritten l; rivalPath = unwritten l } in
+    record { call = rival l i; answers = a; leaves = rivals untold }
 
 abbrev pub gives : Call → Answer → Example
 gives c a = record { call = c; answers = a; leaves = nothing }
@@ -171,6 +210,15 @@ gatePosts =
     ∷ gives (backward (modelZ (0 ∷ []))) (done ln2)
     -- Z4: after one sample without an end state nothing is left of state 0
     ∷ gives (baumWelch (modelZ (0 ∷ []))) (refuse ZeroMass 0 0)
+    -- R1 to R3: at each sample of P1 another path is the strongest rival, at the last one after a tie of predecessors. R4: there is no
+    -- sample 3
+    ∷ rivalled (modelP (0 ∷ 1 ∷ 1 ∷ [])) 0 0 (minus 7) (0 ∷ 1 ∷ 1 ∷ []) (minus 9) (1 ∷ 1 ∷ 1 ∷ [])
+    ∷ rivalled (modelP (0 ∷ 1 ∷ 1 ∷ [])) 1 1 (minus 7) (0 ∷ 1 ∷ 1 ∷ []) (minus 9) (0 ∷ 0 ∷ 1 ∷ [])
+    ∷ rivalled (modelP (0 ∷ 1 ∷ 1 ∷ [])) 2 1 (minus 7) (0 ∷ 1 ∷ 1 ∷ []) (minus 10) (0 ∷ 1 ∷ 0 ∷ [])
+    ∷ unrivalled (modelP (0 ∷ 1 ∷ 1 ∷ [])) 3 (refuse BadIndex 0 0)
+    -- R5: one state alone has no rival. R6: of equal rivals the one of the highest states is given
+    ∷ unrivalled (oneState (0 ∷ [])) 0 (refuse NoRival 0 0)
+    ∷ rivalled (modelZ (0 ∷ 0 ∷ [])) 0 1 nought (1 ∷ 1 ∷ []) nought (0 ∷ 1 ∷ [])
     -- K1 is exp at both ends of its domain, K2 ln at 1 and on both sides of it
     ∷ gives (exp nought) (done one)
     ∷ gives (exp minusInfinity) (done nought)

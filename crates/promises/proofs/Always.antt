@@ -1,9 +1,10 @@
--- Demand 1 holds of the four calls on a model and its samples, and of the reader and the writer of a model file.
+-- Demand 1 holds of the five calls on a model and its samples, and of the reader and the writer of a model file.
 use Prim.Native.Nat.{ℕ, _*_, _<_, _≤_}
 use mathlib.Core.Path.{_≡_, refl, sym, _∙_}
-use mathlib.Core.Bool.{Bool, true, false, true≢false, cond}
+use mathlib.Core.Bool.{Bool, true, false, true≢false, cond, not}
 use mathlib.Core.List.{List, [], _∷_, _++_}
-use borrow.Author.Tests.{ltb-true, ltb-false}
+use native.Mathlib.Omega.{arith}
+use borrow.Author.Tests.{ltb-true, ltb-false, not-true, not-false}
 use lib.Dec as Dec
 use lib.Dec.{ltb, ltb→lt}
 use lib.ListN.{length}
@@ -15,7 +16,7 @@ use Rattle.lists.proofs.First.{passes-there, passes-first}
 use Rattle.answer.specs.Answer.{done, isDone, refuse, answered}
 use Rattle.answer.specs.Checks.{Tests, firstOf}
 use Rattle.answer.specs.declared.Answer.{Answer}
-use Rattle.answer.specs.declared.Refusal.the-variants.{ZeroMass}
+use Rattle.answer.specs.declared.Refusal.the-variants.{ZeroMass, NoRival, BadIndex}
 use Rattle.model.specs.Lent.{Tables, Lent, S, M, T}
 use Rattle.model.specs.Model.{Model, modelOf}
 use Rattle.checks.specs.Rooms.{Room, room}
@@ -24,11 +25,14 @@ use Rattle.checks.specs.Faults.{Fault, fault, shapeFaults, countFaults, roomFau
 use Rattle.checks.specs.Faults.{faultsOf, unsampledFaults}
 use Rattle.checks.specs.Exactly.{Exactly}
 use Rattle.checks.proofs.Tests.{is-true}
-use Rattle.checks.proofs.FirstFault.{Tells, Tell, exactly-first, exactly-both, not-some, some-left, some-right}
+use Rattle.checks.proofs.FirstFault.{Tells, Tell, tell-both, exactly-first, exactly-both, not-some, some-left, some-right}
 use Rattle.checks.proofs.Tells.{to-T, apart, at-one, checks-tell, passage-tells, unsampled-tells}
 use Rattle.best_path.specs.Walk.{value, from, bestPath, bestValue}
 use Rattle.viterbi.specs.Call as Viterbi
 use Rattle.viterbi.specs.Call.{Decoded}
+use Rattle.rival.specs.declared.Rivalry.{Rivalry}
+use Rattle.rival.specs.Call as Rival
+use Rattle.rival.specs.Call.{Asked, rivalValue, rivalTests, Told}
 use Rattle.likelihood.specs.Walk.{alpha, forwardValue, beta, backwardValue}
 use Rattle.likelihood.specs.Call.{checked, Walked}
 use Rattle.occupancy.specs.Occupancy.{Walks, massless}
@@ -44,7 +48,7 @@ use Rattle.model_file.specs.Call as File
 use Rattle.model_file.specs.Call.{noShape, readCheck, Read, writeCheck, Written}
 use Rattle.file_laws.proofs.FileTells.{read-tells}
 use Rattle.promises.specs.Always.{Always, AllCallsAnswer, ZeroMassClears, onPassage, massFaults, walk, viterbi, baumWelch}
-use Rattle.promises.specs.Always.{readModel, writeModel}
+use Rattle.promises.specs.Always.{rivalFaults, rival, readModel, writeModel}
 
 -- ---- a call on a model and one passage
 module _ (Outputs : Type 0) (needsSample : Bool) (rooms : Lent → Outputs → List Room) where
@@ -133,6 +137,67 @@ viterbi-always =
         Viterbi.outputs (after d (bestPath m (T l)) (o .path)) (after d (table (T l) (S l) (value m)) (o .values))
         (after d (table (T l) (S l) (from m)) (o .from))
 
+-- ---- a call whose list of checks tells its list of faults, and that meets nothing on the way
+module _ (ts : Tests) (fs : List Fault) (t : Tell ts fs) where
+  refused-some : Some fs → isDone (firstOf ts) ≡ false
+  refused-some h = go (isDone (firstOf ts)) refl
+    where
+      go : (b : Bool) → isDone (firstOf ts) ≡ b → b ≡ false
+      go true e = absurd (not-some fs h (exactly-first ts fs t .doneOnlyThen e))
+      go false e = refl
+
+  answered-exactly : (v : Float) → Exactly (fs ++ []) (answered (firstOf ts) v)
+  unfolding firstOf
+  answered-exactly v = exactly-both ts [] fs [] t tt v
+
+-- ---- the strongest rival
+rival-tells : (q : Asked) → Tell (rivalTests q) (rivalFaults q)
+rival-tells q =
+    let past = at-one BadIndex 0 0 (T (q .lent) ≤ q .index) (not (ltb (q .index) (T (q .lent)))) tt
+    (λ h. ltb-false _ _ (not-true _ h))
+    (λ h (k : T (q .lent) ≤ q .index). let w : q .index < T (q .lent) = ltb-true _ _ (not-false _ h) in omega arith) in
+    let none = at-one NoRival 0 0 (Dec.T (isMinusInfinity (rivalValue q))) (isMinusInfinity (rivalValue q)) tt (to-T _)
+    (λ h k. true≢false (sym (is-true _ k) ∙ h)) in
+    (past, (none, tt))
+
+pub rival-always : Always rival
+rival-always =
+    record {
+      answers = λ q o. (Rival.rivalry q o, left q o, record { told = refl; path = refl; rivalPath = refl; values = refl; from = refl });
+      exactly = λ q o e r p. rw (p .told) (answered-exactly (all q o) _ (tells q o) (rivalValue q));
+      untouched = stays;
+      badEntry = λ q o e r p h.
+          stays q o e r p (some-left (checkFaults false (Rival.rooms q o) (q .lent)) (rivalFaults q)
+          (some-entry Rival.Outputs false (λ l o. Rival.rooms q o) (q .lent) o h));
+    }
+  where
+    all : (q : Asked) (o : Rival.Outputs) → Tests
+    all q o = testsOf (q .lent .tables) (passage false (Rival.rooms q o) (q .lent)) ++ rivalTests q
+
+    tells : (q : Asked) (o : Rival.Outputs) → Tell (all q o) (checkFaults false (Rival.rooms q o) (q .lent) ++ rivalFaults q)
+    tells q o =
+        tell-both (testsOf (q .lent .tables) (passage false (Rival.rooms q o) (q .lent))) (rivalTests q)
+        (checkFaults false (Rival.rooms q o) (q .lent)) (rivalFaults q)
+        (checks-tell (q .lent .tables) _ _ (passage-tells false (Rival.rooms q o) (q .lent))) (rival-tells q)
+
+    left : (q : Asked) (o : Rival.Outputs) → Rival.Outputs
+    left q o =
+        let d = isDone (Rival.checked q o) in
+        let l = q .lent in
+        let m = Rival.without q in
+        Rival.outputs (after d (bestPath (modelOf l) (T l)) (o .path)) (after d (bestPath m (T l)) (o .rivalPath))
+        (after d (table (T l) (S l) (value m)) (o .values)) (after d (table (T l) (S l) (from m)) (o .from))
+
+    stays : (q : Asked) (o e : Rival.Outputs) (r : Rivalry) → Told q o r e
+        → Some (checkFaults false (Rival.rooms q o) (q .lent) ++ rivalFaults q) → (isDone (r .answer) ≡ false) × (e ≡ o)
+    stays q o e r p h =
+        let no : isDone (Rival.checked q o) ≡ false = refused-some (all q o) _ (tells q o) h in
+        let path : e .path ≡ o .path = rw no at (p .path) in
+        let other : e .rivalPath ≡ o .rivalPath = rw no at (p .rivalPath) in
+        let values : e .values ≡ o .values = rw no at (p .values) in
+        let from : e .from ≡ o .from = rw no at (p .from) in
+        (rw (p .told, no) no, λ i. Rival.outputs (path i) (other i) (values i) (from i))
+
 -- ---- a walk, whatever its value and its rows are
 walk-always : (needsSample : Bool) (v : Lent → Float) (rows : Lent → List Float)
     → Always (walk needsSample (λ l. Walked needsSample (v l) (rows l) l))
@@ -214,19 +279,6 @@ training-always =
 
     kept : (l : Lent) (o : BaumWelch.Outputs) → Trained l o (given l o) (left l o)
     kept l o = record { answer = refl; new = record { transition = refl; emission = refl; initial = refl; end = refl }; alpha = refl; beta = refl }
-
--- ---- the model file: each list of checks tells its list of faults, and nothing is met on the way
-module _ (ts : Tests) (fs : List Fault) (t : Tell ts fs) where
-  refused-some : Some fs → isDone (firstOf ts) ≡ false
-  refused-some h = go (isDone (firstOf ts)) refl
-    where
-      go : (b : Bool) → isDone (firstOf ts) ≡ b → b ≡ false
-      go true e = absurd (not-some fs h (exactly-first ts fs t .doneOnlyThen e))
-      go false e = refl
-
-  answered-exactly : (v : Float) → Exactly (fs ++ []) (answered (firstOf ts) v)
-  unfolding firstOf
-  answered-exactly v = exactly-both ts [] fs [] t tt v
 
 abbrev readChecks : List ℕ → File.Outputs → Tests
 readChecks file o = readTests file (length (o .transition)) (length (o .emission)) (length (o .initial)) (length (o .end))
@@ -313,6 +365,7 @@ pub all-calls-answer : AllCallsAnswer
 all-calls-answer =
     record {
       ofViterbi = viterbi-always;
+      ofRival = rival-always;
       ofForward = walk-always true (λ (l : Lent). forwardValue (modelOf l) (T l)) (λ (l : Lent). table (T l) (S l) (alpha (modelOf l)));
       ofBackward = walk-always false (λ (l : Lent). backwardValue (modelOf l) (T l)) (λ (l : Lent). table (T l) (S l) (beta (modelOf l) (T l)));
       ofBaumWelch = training-always;

@@ -33,7 +33,7 @@ use Rattle.probs.proofs.Pairs.{lnAdd-number, lnSub-number, lnCumsum-number}
 use Rattle.model.specs.Accepted.{Every}
 use Rattle.checks.proofs.Tests.{every}
 use Rattle.promises.specs.NoNan.{Numeric, NoNanFromLeaves}
-use Rattle.promises.proofs.Left.{tab-front}
+use Rattle.checks.proofs.Left.{tab-front}
 
 -- ---- an answer by a test
 either : (b : Bool) (x y : Answer) → (b ≡ true → Numeric x) → (b ≡ false → Numeric y) → Numeric (cond b x y)

@@ -1,16 +1,6 @@
-pub mod Used
-pub mod Tables
-pub mod BestPath
-pub mod Left
-pub mod Calls
-pub mod WayOut
 pub mod Bound
 pub mod Unique
 pub mod Always
-pub mod Likelihood
 pub mod Pass
-pub mod ModelFile
 pub mod NoNan
 pub mod Leaves
-pub mod Kernels
-pub mod EntryBits

@@ -1,8 +1,8 @@
 -- No NaN comes out of a call, and no plus infinity: both walks stay at most at the lid, and a new entry is at most 0.
 use Prim.Native.Nat.{ℕ, zero, suc, _*_, _<_}
 use native.Mathlib.Nat.{lt-suc-self}
-use mathlib.Core.Path.{_≡_, refl, sym, subst}
-use mathlib.Core.Bool.{Bool, true, false}
+use mathlib.Core.Path.{_≡_, refl, sym, ap, subst, _∙_}
+use mathlib.Core.Bool.{Bool, true, false, true≢false, cond}
 use mathlib.Core.List.{List}
 use lib.Dec as Dec
 use lib.ListN.{length, take}
@@ -29,6 +29,10 @@ use Rattle.best_path.proofs.Ending.{ended-lid}
 use Rattle.best_path.proofs.Bounds.{value-lid, value-capped}
 use Rattle.viterbi.specs.Call as Viterbi
 use Rattle.viterbi.specs.Call.{Decoded}
+use Rattle.rival.specs.declared.Rivalry.{Rivalry}
+use Rattle.rival.specs.Call as Rival
+use Rattle.rival.specs.Call.{Asked, rivalValue, Told}
+use Rattle.rival_laws.proofs.Rival.{barred-low}
 use Rattle.likelihood.specs.Walk.{alpha, forwardValue, beta, backwardValue}
 use Rattle.likelihood.specs.Call.{checked, Walked}
 use Rattle.likelihood.proofs.Bounds.{alpha-lid, beta-lid, forward-lid, backward-lid}
@@ -36,11 +40,12 @@ use Rattle.baum_welch.specs.Pass.{probx}
 use Rattle.baum_welch.specs.Call as BaumWelch
 use Rattle.baum_welch.proofs.Walks.{probx-is}
 use Rattle.model_file.specs.Call.{readCheck, writeCheck}
-use Rattle.promises.specs.ModelFile.{modelRead}
-use Rattle.promises.proofs.ModelFile.{model-accepted}
+use Rattle.file_promises.specs.ModelFile.{modelRead}
+use Rattle.file_promises.proofs.ModelFile.{model-accepted}
 use Rattle.promises.specs.NoNan.{NoNanFromFiles, NoNan}
 use Rattle.promises.proofs.Always.{all-calls-answer}
-use Rattle.promises.proofs.Left.{checks-done, tab-front, rows-front}
+use Rattle.checks.proofs.Left.{checks-done, tab-front, rows-front}
+use Rattle.path_promises.proofs.Rival.{passed}
 use Rattle.promises.proofs.Pass.{pass-done, new-model-is-accepted}
 
 -- ---- the value of an answer: that of a refusal is minus infinity
@@ -94,6 +99,37 @@ of-viterbi l o e r p d =
       rows-capped _ (T l) (S l) (value m) (o .values) (e .values) (p .values) (h .0) (value-capped (T l) m some low),
     )
 
+of-rival : (q : Asked) (o e : Rival.Outputs) (r : Rivalry) → Told q o r e → isDone (r .answer) ≡ true → let l = q .lent in
+    Dec.T (capped (r .answer .value)) × Every capped (take (T l * S l) (e .values)) × Dec.T (capped (r .best))
+of-rival q o e r p d =
+    let l = q .lent in
+    let m = modelOf l in
+    let h = checks-done (Rival.checked q o) (done (rivalValue q)) (r .answer) (ap (λ (x : Rivalry). x .answer) (p .told)) d in
+    let a = passed q o (h .0) .accepted in
+    let low = accepted-low l a in
+    let some = a .tables .inRange .someState in
+    let barred = barred-low (T l) m low (q .index) (Rival.chosen q) in
+    let best : r .best ≡ bestValue m (T l)
+    = ap (λ (x : Rivalry). x .best) (p .told) ∙ ap (λ (b : Bool). cond b (bestValue m (T l)) minusInfinity) (h .0) in (
+      done-capped (r .answer) _ (h .1) (best-capped (Rival.without q) (T l) some barred),
+      rows-capped _ (T l) (S l) (value (Rival.without q)) (o .values) (e .values) (p .values) (h .0)
+          (value-capped (T l) (Rival.without q) some barred),
+      subst (λ (v : Float). Dec.T (capped v)) (sym best) (best-capped m (T l) some low),
+    )
+
+best-told : (q : Asked) (o e : Rival.Outputs) (r : Rivalry) → Told q o r e → Dec.T (capped (r .best))
+best-told q o e r p = go (isDone (r .answer)) refl
+  where
+    refused : (b : Bool) → isDone (Rival.checked q o) ≡ b → isDone (r .answer) ≡ false
+        → Dec.T (capped (cond b (bestValue (modelOf (q .lent)) (T (q .lent))) minusInfinity))
+    refused true h n = absurd (true≢false (sym (ap (λ (x : Rivalry). isDone (x .answer)) (p .told) ∙ rw h) ∙ n))
+    refused false h n = tt
+
+    go : (b : Bool) → isDone (r .answer) ≡ b → Dec.T (capped (r .best))
+    go true d = of-rival q o e r p d .2
+    go false d =
+        subst (λ (v : Float). Dec.T (capped v)) (sym (ap (λ (x : Rivalry). x .best) (p .told))) (refused (isDone (Rival.checked q o)) refl d)
+
 -- a walk, whatever its value and its rows are
 module _ (needsSample : Bool) (l : Lent) (v : Float) (f : ℕ → ℕ → Float) where
   of-walk : (Low (modelOf l) (T l) → Dec.T (capped v)) → (Low (modelOf l) (T l) → (t j : ℕ) → t < T l → j < S l → Dec.T (capped (f t j)))
@@ -139,6 +175,13 @@ no-nan =
             value = answer-capped _ r (all-calls-answer .ofViterbi .exactly l o e r p) (λ d. of-viterbi l o e r p d .0);
             written = λ d. (of-viterbi l o e r p d .1, tt);
           };
+      ofRival = λ q o e r p. (
+        record {
+          value = answer-capped _ (r .answer) (all-calls-answer .ofRival .exactly q o e r p) (λ d. of-rival q o e r p d .0);
+          written = λ d. (of-rival q o e r p d .1, tt);
+        },
+        best-told q o e r p,
+      );
       ofForward = λ l o e r p.
           record {
             value = answer-capped _ r (all-calls-answer .ofForward .exactly l o e r p) (λ d. of-forward l o e r p d .0);

@@ -24,7 +24,7 @@ use Rattle.baum_welch.proofs.Again.{accepted-again}
 use Rattle.promises.specs.Always.{baumWelch}
 use Rattle.promises.specs.Pass.{GammaIsAbove, NeverNegative, NewModelIsAccepted}
 use Rattle.promises.proofs.Always.{all-calls-answer}
-use Rattle.promises.proofs.Left.{checks-done, tab-front, rows-front}
+use Rattle.checks.proofs.Left.{checks-done, tab-front, rows-front}
 
 pub gamma-is-above : GammaIsAbove
 gamma-is-above l a some likely i s = last-below (walks-lidded (modelOf l) (T l) some (accepted-low l a) likely) i s

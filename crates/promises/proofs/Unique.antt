@@ -14,6 +14,9 @@ use Rattle.lists.specs.Lists.{table}
 use Rattle.best_path.specs.inner.Step.{Stored}
 use Rattle.viterbi.specs.Call as Viterbi
 use Rattle.viterbi.specs.Call.{Decoded}
+use Rattle.rival.specs.declared.Rivalry.{Rivalry}
+use Rattle.rival.specs.Call as Rival
+use Rattle.rival.specs.Call.{Asked, asked, Told}
 use Rattle.likelihood.specs.Walk.{alpha, forwardValue, beta, backwardValue}
 use Rattle.likelihood.specs.Call.{Forward, Backward, Walked}
 use Rattle.baum_welch.specs.Call as BaumWelch
@@ -21,11 +24,11 @@ use Rattle.baum_welch.specs.Call.{Trained}
 use Rattle.model_file.specs.declared.Reading.{Reading}
 use Rattle.model_file.specs.Call as File
 use Rattle.model_file.specs.Call.{Read, Written}
-use Rattle.wasnugram.specs.Face.{flattened, Answers}
+use Rattle.wasnugram.specs.Face.{flattened, flatReading, flatRivalry, Answers}
 use Rattle.wasnugram.specs.declared.WasnugramAnswer.{WasnugramAnswer}
-use Rattle.wasnugram.proofs.Face.{face-is-unique, reading-is-unique}
+use Rattle.wasnugram.proofs.Face.{face-is-unique}
 use Rattle.promises.specs.Unique.{Unique, EveryPromiseIsUnique, OfFloats, OfLittleEndian, OfAnswer, OfKernels, OfProb, OfLogProb, OfPHREDProb, OfSums}
-use Rattle.promises.specs.Unique.{OfModel, OfChecks, OfEmission, OfBestPath, OfOccupancy, OfCalls, OfModelFile, OfExportedCalls, OfFace}
+use Rattle.promises.specs.Unique.{OfModel, OfChecks, OfEmission, OfBestPath, OfWalk, OfOccupancy, OfCalls, OfModelFile, OfExportedCalls, OfFace}
 
 -- ---- a promise that is one equality
 one : {A : Type 0} (v : A) → Unique (λ (r : A). r ≡ v)
@@ -52,6 +55,15 @@ decoded l o x y p q =
     let values : x .1 .values ≡ y .1 .values = p .values ∙ sym (q .values) in
     let from : x .1 .from ≡ y .1 .from = p .from ∙ sym (q .from) in
     λ i. (answer i, Viterbi.outputs (path i) (values i) (from i))
+
+told-one : (q : Asked) (o : Rival.Outputs) → Unique (λ (r : Rivalry × Rival.Outputs). Told q o (r .0) (r .1))
+told-one q o x y p q' =
+    let told : x .0 ≡ y .0 = p .told ∙ sym (q' .told) in
+    let path : x .1 .path ≡ y .1 .path = p .path ∙ sym (q' .path) in
+    let other : x .1 .rivalPath ≡ y .1 .rivalPath = p .rivalPath ∙ sym (q' .rivalPath) in
+    let values : x .1 .values ≡ y .1 .values = p .values ∙ sym (q' .values) in
+    let from : x .1 .from ≡ y .1 .from = p .from ∙ sym (q' .from) in
+    λ i. (told i, Rival.outputs (path i) (other i) (values i) (from i))
 
 walked : (needsSample : Bool) (v : Float) (rows : List Float) (l : Lent) (o : List Float)
     → Unique (λ (r : Answer × List Float). Walked needsSample v rows l o (r .0) (r .1))
@@ -199,7 +211,11 @@ of-checks =
 
 of-emission : OfEmission
 of-emission =
-    record { «lay_emissions» = λ emission states symbols samples t emissions. one _; «first_row» = λ initial emissions values. one _ }
+    record {
+      «lay_emissions» = λ emission states symbols samples t emissions. one _;
+      «lay_barred» = λ emission states symbols samples index state t emissions. one _;
+      «first_row» = λ initial emissions values. one _;
+    }
 
 of-best-path : OfBestPath
 of-best-path =
@@ -210,8 +226,20 @@ of-best-path =
       «lay_sums» = λ states sums emissions target values. one _;
       «lay_winners» = λ states winners target from. one _;
       «next_row» = λ states transition emissions source target values from. stored target _ _ values from;
-      rows = λ states symbols transition emission initial samples values from x y p q.
+      «first_from» = λ states from. one _;
+    }
+
+of-walk : OfWalk
+of-walk =
+    record {
+      rows = λ states symbols transition emission initial samples index state values from x y p q.
           stored 0 _ _ values from x y (p false (λ (j : ℕ). nought)) (q false (λ (j : ℕ). nought));
+      decode = λ l index state path values from x y p q.
+          let value : x .0 ≡ y .0 = p .valueFound ∙ sym (q .valueFound) in
+          let path : x .1 ≡ y .1 = p .pathStored ∙ sym (q .pathStored) in
+          let values : x .2 ≡ y .2 = p .rowsFilled .valuesStored ∙ sym (q .rowsFilled .valuesStored) in
+          let from : x .3 ≡ y .3 = p .rowsFilled .fromStored ∙ sym (q .rowsFilled .fromStored) in
+          λ i. (value i, path i, values i, from i);
     }
 
 of-occupancy : OfOccupancy
@@ -224,15 +252,16 @@ of-occupancy =
     }
 
 of-calls : OfCalls
-of-calls = record { viterbi = decoded; forward = forward-one; backward = backward-one; «baum_welch» = trained }
+of-calls = record { viterbi = decoded; rival = told-one; forward = forward-one; backward = backward-one; «baum_welch» = trained }
 
 of-exported-calls : (l : Lent) → OfExportedCalls l
 of-exported-calls l =
     record {
-      «wasnugram_viterbi» = λ o. face-is-unique _ _ (decoded l o);
-      «wasnugram_forward» = λ o. face-is-unique _ _ (forward-one l o);
-      «wasnugram_backward» = λ o. face-is-unique _ _ (backward-one l o);
-      «wasnugram_baum_welch» = λ o. face-is-unique _ _ (trained l o);
+      «wasnugram_viterbi» = λ o. face-is-unique _ _ _ flattened _ (decoded l o);
+      «wasnugram_rival» = λ index o. face-is-unique _ _ _ flatRivalry _ (told-one (asked l index) o);
+      «wasnugram_forward» = λ o. face-is-unique _ _ _ flattened _ (forward-one l o);
+      «wasnugram_backward» = λ o. face-is-unique _ _ _ flattened _ (backward-one l o);
+      «wasnugram_baum_welch» = λ o. face-is-unique _ _ _ flattened _ (trained l o);
     }
 
 of-model-file : OfModelFile
@@ -242,8 +271,8 @@ of-face : OfFace
 of-face =
     record {
       calls = λ shape transition emission initial end samples. of-exported-calls _;
-      «wasnugram_read_model» = λ file o. reading-is-unique _ _ (read-one file o);
-      «wasnugram_write_model» = λ shape transition emission initial end o. face-is-unique _ _ (written-one _ o);
+      «wasnugram_read_model» = λ file o. face-is-unique _ _ _ flatReading _ (read-one file o);
+      «wasnugram_write_model» = λ shape transition emission initial end o. face-is-unique _ _ _ flattened _ (written-one _ o);
       «wasnugram_model_file_length» = λ shape. one _;
       «wasnugram_exp» = λ d. flat _;
       «wasnugram_ln» = λ x. flat _;
@@ -251,7 +280,7 @@ of-face =
       «wasnugram_ln_sum_exp» = λ probs. flat _;
       «wasnugram_ln_add_exp» = λ p0 p1. flat _;
       «wasnugram_ln_sub_exp» = λ p0 p1. flat _;
-      «wasnugram_ln_cumsum_exp» = λ probs sums. face-is-unique _ _ (cumulated probs sums);
+      «wasnugram_ln_cumsum_exp» = λ probs sums. face-is-unique _ _ _ flattened _ (cumulated probs sums);
       «wasnugram_cap_numerical_overshoot» = λ value epsilon. flat _;
     }
 
@@ -270,6 +299,7 @@ every-promise-is-unique =
       ofChecks = of-checks;
       ofEmission = of-emission;
       ofBestPath = of-best-path;
+      ofWalk = of-walk;
       ofOccupancy = of-occupancy;
       ofCalls = of-calls;
       ofModelFile = of-model-file;

@@ -1,5 +1,5 @@
 -- Demand 1, always an answer (RULES 8.1), asked of any call: `Always` has its parts, and `AllCallsAnswer` the calls that it is proved of.
-use Prim.Native.Nat.{ℕ, _*_, _<_}
+use Prim.Native.Nat.{ℕ, _*_, _≤_, _<_}
 use mathlib.Core.Path.{_≡_}
 use mathlib.Core.Bool.{Bool, true, false}
 use mathlib.Core.List.{List, [], _∷_, _++_}
@@ -17,6 +17,9 @@ use Rattle.checks.specs.Faults.{Fault, fault, faultsOf, checkFaults, unsampledF
 use Rattle.checks.specs.Exactly.{Exactly}
 use Rattle.viterbi.specs.Call as Viterbi
 use Rattle.viterbi.specs.Call.{Decoded}
+use Rattle.rival.specs.declared.Rivalry.{Rivalry}
+use Rattle.rival.specs.Call as Rival
+use Rattle.rival.specs.Call.{Asked, rivalValue, Told}
 use Rattle.likelihood.specs.Call.{Forward, Backward}
 use Rattle.occupancy.specs.Occupancy.{Walks, massless}
 use Rattle.baum_welch.specs.Call as BaumWelch
@@ -70,6 +73,27 @@ module _ (Outputs : Type 0) (needsSample : Bool) (Promise : Lent → Outputs →
 abbrev pub viterbi : Call
 viterbi = onPassage Viterbi.Outputs false Decoded Viterbi.rooms (λ (l : Lent) (o : Viterbi.Outputs). [])
 
+-- 16: there is no such sample; 15: the best path with another state there is at minus infinity
+abbrev pub rivalFaults : Asked → List Fault
+rivalFaults q =
+    fault 16 0 (λ (p : ℕ). (p ≡ 0) × (T (q .lent) ≤ q .index))
+    ∷ fault 15 0 (λ (p : ℕ). (p ≡ 0) × Dec.T (isMinusInfinity (rivalValue q)))
+    ∷ []
+
+-- nothing is met on the way: whether there is a rival is known before memory is written
+abbrev pub rival : Call
+rival =
+    record {
+      Input = Asked;
+      Outputs = Rival.Outputs;
+      Result = Rivalry;
+      answer = λ (r : Rivalry). r .answer;
+      Promise = Told;
+      checked = λ (q : Asked) (o : Rival.Outputs). checkFaults false (Rival.rooms q o) (q .lent) ++ rivalFaults q;
+      entries = λ (q : Asked). badEntries (q .lent .tables);
+      met = λ (q : Asked) (o : Rival.Outputs). [];
+    }
+
 -- a walk is lent one output, of T·S
 abbrev pub walk : Bool → (Lent → List Float → Answer → List Float → Type 0) → Call
 walk needsSample Promise =
@@ -122,9 +146,10 @@ writeModel =
       met = λ (m : Tables) (o : List ℕ). [];
     }
 
--- of the four calls on a model and its samples, and of the two on a model file
+-- of the five calls on a model and its samples, and of the two on a model file
 pub record AllCallsAnswer : Type 1 where
   pub ofViterbi : Always viterbi
+  pub ofRival : Always rival
   pub ofForward : Always forward
   pub ofBackward : Always backward
   pub ofBaumWelch : Always baumWelch

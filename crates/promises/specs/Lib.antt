@@ -1,11 +1,4 @@
-pub mod BestPath
-pub mod Calls
-pub mod WayOut
 pub mod Unique
 pub mod Always
-pub mod Likelihood
 pub mod Pass
-pub mod ModelFile
 pub mod NoNan
-pub mod Kernels
-pub mod EntryBits

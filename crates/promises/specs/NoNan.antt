@@ -18,13 +18,16 @@ use Rattle.model.specs.Lent.{Tables, Lent, S, M, T}
 use Rattle.model.specs.Accepted.{Every}
 use Rattle.viterbi.specs.Call as Viterbi
 use Rattle.viterbi.specs.Call.{Decoded}
+use Rattle.rival.specs.declared.Rivalry.{Rivalry}
+use Rattle.rival.specs.Call as Rival
+use Rattle.rival.specs.Call.{Asked, Told}
 use Rattle.likelihood.specs.Call.{Forward, Backward}
 use Rattle.baum_welch.specs.Call as BaumWelch
 use Rattle.baum_welch.specs.Call.{Trained}
 use Rattle.model_file.specs.declared.Reading.{Reading}
 use Rattle.model_file.specs.Call as File
 use Rattle.model_file.specs.Call.{Read, Written}
-use Rattle.promises.specs.ModelFile.{modelRead}
+use Rattle.file_promises.specs.ModelFile.{modelRead}
 
 -- every entry of every list is neither NaN nor plus infinity
 abbrev pub AllCapped : List (List Float) → Type 0
@@ -36,9 +39,11 @@ pub record Clean (r : Answer) (places : List (List Float)) : Type 0 where
   pub value : Dec.T (capped (r .value))
   pub written : isDone r ≡ true → AllCapped places
 
--- of the four calls on a model, whatever they are lent
+-- of the five calls on a model, whatever they are lent
 pub record NoNan : Type 0 where
   pub ofViterbi : (l : Lent) (o e : Viterbi.Outputs) (r : Answer) → Decoded l o r e → Clean r (take (T l * S l) (e .values) ∷ [])
+  pub ofRival : (q : Asked) (o e : Rival.Outputs) (r : Rivalry) → Told q o r e
+      → Clean (r .answer) (take (T (q .lent) * S (q .lent)) (e .values) ∷ []) × Dec.T (capped (r .best))
   pub ofForward : (l : Lent) (o e : List Float) (r : Answer) → Forward l o r e → Clean r (take (T l * S l) e ∷ [])
   pub ofBackward : (l : Lent) (o e : List Float) (r : Answer) → Backward l o r e → Clean r (take (T l * S l) e ∷ [])
   pub ofBaumWelch : (l : Lent) (o e : BaumWelch.Outputs) (r : Answer) → Trained l o r e

@@ -31,20 +31,27 @@ use Rattle.probs.specs.declared.PHREDProb.{PHREDProb}
 use Rattle.probs.specs.declared.sum.Peak.{Peak}
 use Rattle.probs.specs.declared.sum.Open.{Open}
 use Rattle.model.specs.declared.Shape.{Shape}
-use Rattle.model.specs.Lent.{Tables, Lent, tablesOf, lent}
+use Rattle.model.specs.Lent.{Tables, Lent, T, tablesOf, lent}
 use Rattle.model.specs.Good.{good, goodEnd, goodBits}
 use Rattle.model.specs.inner.Marks.{isSet}
-use Rattle.model.specs.Model.{emissionOf}
+use Rattle.model.specs.Model.{emissionOf, modelOf}
 use Rattle.checks.specs.Rooms.{roomsOf}
 use Rattle.checks.specs.Checks.{shapeTests, countTests, roomTests, entryTests, isSymbol, sampleTests}
 use Rattle.checks.specs.inner.Parts.{sizesOf, restTests}
+use Rattle.emission.specs.Barring.{barring}
 use Rattle.emission.specs.inner.Row.{firstRow}
 use Rattle.best_path.specs.Best.{greatest}
 use Rattle.best_path.specs.Walk.{ended, pathTo}
 use Rattle.best_path.specs.inner.Back.{fromAt}
 use Rattle.best_path.specs.inner.Step.{Stepped}
-use Rattle.best_path.specs.inner.Rows.{RowsStored}
+use Rattle.best_path.specs.inner.Row.{firstFrom}
+use Rattle.walk.specs.Barred.{barred}
+use Rattle.walk.specs.inner.Rows.{RowsStored}
+use Rattle.walk.specs.inner.Path.{Found}
 use Rattle.viterbi.specs.Call.{Outputs, Decoded}
+use Rattle.rival.specs.declared.Rivalry.{Rivalry}
+use Rattle.rival.specs.Call as Rival
+use Rattle.rival.specs.Call.{Asked, asked, Told}
 use Rattle.likelihood.specs.Call.{Forward, Backward}
 use Rattle.occupancy.specs.declared.Pass.{Pass}
 use Rattle.occupancy.specs.Occupancy as Occupancy
@@ -54,9 +61,10 @@ use Rattle.baum_welch.specs.Call.{Trained}
 use Rattle.model_file.specs.declared.Reading.{Reading}
 use Rattle.model_file.specs.Call as File
 use Rattle.model_file.specs.Call.{Read, Written, lengthOf}
-use Rattle.wasnugram.specs.Face.{shapeOf, Answers, Reads}
+use Rattle.wasnugram.specs.Face.{shapeOf, Answers, Reads, Tells}
 use Rattle.wasnugram.specs.declared.WasnugramAnswer.{WasnugramAnswer}
 use Rattle.wasnugram.specs.declared.WasnugramReading.{WasnugramReading}
+use Rattle.wasnugram.specs.declared.WasnugramRivalry.{WasnugramRivalry}
 use Rattle.wasnugram.specs.declared.WasnugramShape.{WasnugramShape}
 
 -- any two results that meet the promise are equal
@@ -149,6 +157,8 @@ pub record OfChecks : Type 0 where
 pub record OfEmission : Type 0 where
   pub «lay_emissions» : (emission : List Float) (states symbols : ℕ) (samples : List ℕ) (t : ℕ) (emissions : List Float)
       → Unique (λ (e : List Float). e ≡ over 0 (tab states (emissionOf symbols emission samples t)) emissions)
+  pub «lay_barred» : (emission : List Float) (states symbols : ℕ) (samples : List ℕ) (index state t : ℕ) (emissions : List Float)
+      → Unique (λ (e : List Float). e ≡ over 0 (tab states (barring index state (emissionOf symbols emission samples) t)) emissions)
   pub «first_row» : (initial emissions values : List Float) → Unique (λ (e : List Float). e ≡ over 0 (firstRow initial emissions) values)
 
 pub record OfBestPath : Type 0 where
@@ -163,9 +173,17 @@ pub record OfBestPath : Type 0 where
       → Unique (λ (e : List ℕ). e ≡ over target (tab states (λ (j : ℕ). getD winners j 0)) from)
   pub «next_row» : (states : ℕ) (transition emissions : List Float) (source target : ℕ) (values : List Float) (from : List ℕ)
       → Unique (λ (e : List Float × List ℕ). Stepped states transition emissions source target values (e .0) from (e .1))
-  pub rows : (states symbols : ℕ) (transition emission initial : List Float) (samples : List ℕ) (values : List Float) (from : List ℕ)
+  pub «first_from» : (states : ℕ) (from : List ℕ) → Unique (λ (e : List ℕ). e ≡ over 0 (firstFrom states) from)
+
+-- the walk over lent memory; a path, values and predecessors are left
+pub record OfWalk : Type 0 where
+  pub rows : (states symbols : ℕ) (transition emission initial : List Float) (samples : List ℕ) (index state : ℕ)
+      (values : List Float) (from : List ℕ)
       → Unique (λ (e : List Float × List ℕ).
-      RowsStored states transition initial (emissionOf symbols emission samples) (length samples) values (e .0) from (e .1))
+      RowsStored states transition initial (barring index state (emissionOf symbols emission samples)) (length samples) values (e .0) from (e .1))
+  pub decode : (l : Lent) (index state : ℕ) (path : List ℕ) (values : List Float) (from : List ℕ)
+      → Unique (λ (e : Float × List ℕ × List Float × List ℕ).
+      Found (barred index state (modelOf l)) (T l) (e .0) path (e .1) values (e .2) from (e .3))
 
 pub record OfOccupancy : Type 0 where
   pub occupancy : (pass : Pass) (alpha beta : List Float) (i t : ℕ) → Unique (λ (r : Float). r ≡ Occupancy.occupancy (rowsOf pass alpha beta) i t)
@@ -177,6 +195,7 @@ pub record OfOccupancy : Type 0 where
 -- the calls on a model: the answer and every output
 pub record OfCalls : Type 0 where
   pub viterbi : (l : Lent) (o : Outputs) → Unique (λ (r : Answer × Outputs). Decoded l o (r .0) (r .1))
+  pub rival : (q : Asked) (o : Rival.Outputs) → Unique (λ (r : Rivalry × Rival.Outputs). Told q o (r .0) (r .1))
   pub forward : (l : Lent) (o : List Float) → Unique (λ (r : Answer × List Float). Forward l o (r .0) (r .1))
   pub backward : (l : Lent) (o : List Float) → Unique (λ (r : Answer × List Float). Backward l o (r .0) (r .1))
   pub «baum_welch» : (l : Lent) (o : BaumWelch.Outputs) → Unique (λ (r : Answer × BaumWelch.Outputs). Trained l o (r .0) (r .1))
@@ -190,6 +209,8 @@ pub record OfModelFile : Type 0 where
 -- the exports of the C face on a model, by what they are lent to read
 pub record OfExportedCalls (l : Lent) : Type 0 where
   pub «wasnugram_viterbi» : (o : Outputs) → Unique (λ (r : WasnugramAnswer × Outputs). Answers (λ (a : Answer). Decoded l o a (r .1)) (r .0))
+  pub «wasnugram_rival» : (index : ℕ) (o : Rival.Outputs)
+      → Unique (λ (r : WasnugramRivalry × Rival.Outputs). Tells (λ (a : Rivalry). Told (asked l index) o a (r .1)) (r .0))
   pub «wasnugram_forward» : (o : List Float)
       → Unique (λ (r : WasnugramAnswer × List Float). Answers (λ (a : Answer). Forward l o a (r .1)) (r .0))
   pub «wasnugram_backward» : (o : List Float)
@@ -197,7 +218,7 @@ pub record OfExportedCalls (l : Lent) : Type 0 where
   pub «wasnugram_baum_welch» : (o : BaumWelch.Outputs)
       → Unique (λ (r : WasnugramAnswer × BaumWelch.Outputs). Answers (λ (a : Answer). Trained l o a (r .1)) (r .0))
 
--- all fifteen
+-- all sixteen
 pub record OfFace : Type 0 where
   pub calls : (shape : WasnugramShape) (transition emission initial end : List Float) (samples : List ℕ)
       → OfExportedCalls (lent (shapeOf shape) transition emission initial end samples)
@@ -232,6 +253,7 @@ pub record EveryPromiseIsUnique : Type 0 where
   pub ofChecks : OfChecks
   pub ofEmission : OfEmission
   pub ofBestPath : OfBestPath
+  pub ofWalk : OfWalk
   pub ofOccupancy : OfOccupancy
   pub ofCalls : OfCalls
   pub ofModelFile : OfModelFile

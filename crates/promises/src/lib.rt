@@ -1,1 +1,1 @@
-// What the library promises as a whole: statements in specs/, proved in proofs/. It has no code.
+// What every call promises: that it always answers, that one result meets its promise, and that no NaN comes out of it. There is no code.

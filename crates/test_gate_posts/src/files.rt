@@ -1,4 +1,7 @@
 // The examples of the model file: F1 to F5.
+use crate::models::EMISSION;
+use crate::models::INITIAL;
+use crate::models::TRANSITION;
 use crate::print::answer;
 use crate::print::bytes;
 use crate::print::entries;
@@ -15,9 +18,9 @@ fn write(label: &[u8], ends: bool, end: &[f64], file: &mut [u8]) {
         symbols: 2,
         ends: ends,
     };
-    let transition = [-1.0, -2.0, -2.0, -1.0];
-    let emission = [-1.0, -3.0, -3.0, -1.0];
-    let initial = [-1.0, -2.0];
+    let transition = TRANSITION;
+    let emission = EMISSION;
+    let initial = INITIAL;
     let a = write_model(
         model,
         &transition[..],

@@ -1,4 +1,8 @@
 // The examples of `viterbi`: P1 to P6, E1 to E3, Z1 and Z3.
+use crate::models::EMISSION;
+use crate::models::INITIAL;
+use crate::models::TRANSITION;
+use crate::models::shape;
 use crate::print::answer;
 use crate::print::states;
 use answer::Answer;
@@ -14,15 +18,6 @@ fn path_of(a: Answer, path: &[u8; 3], n: usize) {
         states(path, n);
     }
     text(b"\n");
-}
-
-// A shape of two symbols.
-fn shape(states: usize, ends: bool) -> Shape {
-    Shape {
-        states: states,
-        symbols: 2,
-        ends: ends,
-    }
 }
 
 // A model, decoded: the answer, and the path where the call is done.
@@ -57,7 +52,7 @@ fn decode(
 fn decode_p(label: &[u8], transition: f64, emission: f64, samples: &[u16]) {
     let transitions = [transition, -2.0, -2.0, -1.0];
     let emissions = [-1.0, -3.0, -3.0, emission];
-    let initial = [-1.0, -2.0];
+    let initial = INITIAL;
     let end = [0.0, 0.0];
     decode(
         label,
@@ -87,9 +82,9 @@ pub fn model_p() {
 
 // Model P with an end state, on the samples of P1.
 fn decode_ending(label: &[u8], end: &[f64]) {
-    let transition = [-1.0, -2.0, -2.0, -1.0];
-    let emission = [-1.0, -3.0, -3.0, -1.0];
-    let initial = [-1.0, -2.0];
+    let transition = TRANSITION;
+    let emission = EMISSION;
+    let initial = INITIAL;
     let samples: [u16; 3] = [0, 1, 1];
     decode(
         label,

@@ -1,16 +1,15 @@
 // The cases of the kernels and the leaves: list 0 is the arguments.
 use answer::Answer;
 use answer::done;
+use comparators::answer_differs;
+use comparators::lent_numbers;
+use comparators::numbers_changed;
+use frozen_list::cases::ends_with;
+use frozen_list::cases::table;
+use frozen_list::cases::words;
 use probs::LogProb;
 use probs::PHREDProb;
 use probs::Prob;
-use program_io::cases::ends_with;
-use program_io::cases::table;
-use program_io::cases::words;
-use program_io::compare;
-use program_io::compare::answer_differs;
-use program_io::compare::lent_numbers;
-use program_io::compare::numbers_changed;
 use program_io::words::number;
 use program_io::words::word_at;
 
@@ -49,7 +48,7 @@ fn on_two(call: u64, x: f64, y: f64) -> Answer {
 
 // A case of `ln_cumsum_exp`: list 1 is the output.
 fn ln_cumsum_exp_differs(case: &[u64], arguments: &[f64]) -> bool {
-    let mut sums = compare::numbers();
+    let mut sums = comparators::numbers();
     let a = LogProb::ln_cumsum_exp(arguments, lent_numbers(&mut sums, case, 1));
     answer_differs(case, a) | numbers_changed(&sums, case, 1) | !ends_with(case, 1)
 }

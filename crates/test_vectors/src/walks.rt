@@ -1,23 +1,26 @@
 // The cases of the calls on a model: lists 0 to 5 are shape, transition, emission, initial, end and samples, the outputs come after them.
+// `rival` has its index in list 6, and then, before its outputs, what it gives beside its answer.
 use answer::Answer;
 use baum_welch::baum_welch;
+use comparators::MOST;
+use comparators::answer_differs;
+use comparators::bytes;
+use comparators::bytes_changed;
+use comparators::choice_differs;
+use comparators::lent_bytes;
+use comparators::lent_numbers;
+use comparators::numbers;
+use comparators::numbers_changed;
+use frozen_list::cases::ends_with;
+use frozen_list::cases::length;
+use frozen_list::cases::samples_of;
+use frozen_list::cases::table;
+use frozen_list::cases::words;
 use likelihood::backward;
 use likelihood::forward;
 use model::Shape;
-use program_io::cases::ends_with;
-use program_io::cases::length;
-use program_io::cases::samples_of;
-use program_io::cases::table;
-use program_io::cases::words;
-use program_io::compare::MOST;
-use program_io::compare::answer_differs;
-use program_io::compare::bytes;
-use program_io::compare::bytes_changed;
-use program_io::compare::lent_bytes;
-use program_io::compare::lent_numbers;
-use program_io::compare::numbers;
-use program_io::compare::numbers_changed;
 use program_io::words::word_at;
+use rival::rival;
 use viterbi::viterbi;
 
 // The shape of a case, whose words are the first three of its lists: states, symbols, and 1 for an end state.
@@ -150,13 +153,42 @@ fn baum_welch_differs(case: &[u64], tables: &[f64], samples: &[u16]) -> bool {
         | !ends_with(case, 11)
 }
 
-// A case of any of the four calls.
+// A case of `rival`: the outputs are path, rival_path, values and from.
+fn rival_differs(case: &[u64], tables: &[f64], samples: &[u16]) -> bool {
+    let mut path = bytes();
+    let mut rival_path = bytes();
+    let mut values = numbers();
+    let mut from = bytes();
+    let rivalry = rival(
+        shape_of(case),
+        table(case, tables, 1),
+        table(case, tables, 2),
+        table(case, tables, 3),
+        table(case, tables, 4),
+        samples,
+        word_at(words(case, 6), 0) as usize,
+        lent_bytes(&mut path, case, 8),
+        lent_bytes(&mut rival_path, case, 9),
+        lent_numbers(&mut values, case, 10),
+        lent_bytes(&mut from, case, 11),
+    );
+    answer_differs(case, rivalry.answer)
+        | choice_differs(case, 7, rivalry.chosen, rivalry.best)
+        | bytes_changed(&path, case, 8)
+        | bytes_changed(&rival_path, case, 9)
+        | numbers_changed(&values, case, 10)
+        | bytes_changed(&from, case, 11)
+        | !ends_with(case, 11)
+}
+
+// A case of any of the five calls.
 fn call_differs(case: &[u64], tables: &[f64], samples: &[u16], call: u64) -> bool {
     match call {
         0 => viterbi_differs(case, tables, samples),
         1 => forward_differs(case, tables, samples),
         2 => backward_differs(case, tables, samples),
-        _ => baum_welch_differs(case, tables, samples),
+        3 => baum_welch_differs(case, tables, samples),
+        _ => rival_differs(case, tables, samples),
     }
 }
 

@@ -8,9 +8,10 @@ use Rattle.lists.proofs.Over.{over-none}
 use Rattle.answer.specs.Answer.{done, isDone}
 use Rattle.answer.specs.declared.Answer.{Answer}
 use Rattle.model.specs.Lent.{Lent, T}
+use Rattle.model.specs.Model.{modelOf}
 use Rattle.best_path.specs.Walk.{bestPath, bestValue}
+use Rattle.walk.specs.inner.Path.{Found}
 use Rattle.viterbi.specs.Call.{Outputs, checked, Decoded}
-use Rattle.viterbi.specs.inner.Parts.{FoundOf}
 
 module _ (l : Lent) (o : Outputs) (r : Answer) where
   pub is-refused : isDone (checked l o) ≡ false → r ≡ checked l o → Decoded l o r o
@@ -26,7 +27,8 @@ module _ (l : Lent) (o : Outputs) (r : Answer) where
         from = rw (ok, none) (sym (over-none 0 _));
       }
 
-  pub is-walked : isDone (checked l o) ≡ true → (v : Float) (e : Outputs) → FoundOf l o v e → r ≡ done v → Decoded l o r e
+  pub is-walked : isDone (checked l o) ≡ true → (v : Float) (e : Outputs)
+      → Found (modelOf l) (T l) v (o .path) (e .path) (o .values) (e .values) (o .from) (e .from) → r ≡ done v → Decoded l o r e
   is-walked ok v e w d =
       record {
         answer = rw ok (d ∙ ap done (w .valueFound));

@@ -2,59 +2,15 @@
 use answer::Answer;
 use answer::done;
 use answer::is_done;
-use best_path::back::close;
-use best_path::back::last_state;
-use best_path::back::trace;
-use best_path::rows::rows;
 use checks::check_rest;
 use checks::check_sizes;
 use floats::minus_infinity;
 use model::Shape;
+use walk::decode;
 ghost use mathlib.Core.Path.{_≡_};
 ghost use Rattle.model.specs.Lent.{lent};
 ghost use Rattle.viterbi.specs.Call.{Decoded, outputs};
-ghost use Rattle.viterbi.specs.inner.Parts.{checkedFor, Decodable, FoundOf};
-
-// The walk over one sample or more, once the checks are passed: the best path's value. The rows take no end table; the last state and the
-// value do.
-fn decode(
-    shape: Shape,
-    transition: &[f64],
-    emission: &[f64],
-    initial: &[f64],
-    end: &[f64],
-    samples: &[u16],
-    path: &mut [u8],
-    values: &mut [f64],
-    from: &mut [u8],
-) -> f64
-    requires { ⌜ Decodable
-        (lent shape (now transition) (now emission) (now initial) (now end) (now samples)) (outputs (now path) (now values) (now from)) ⌝ }
-    ensures { λ r. ⌜ FoundOf
-        (lent shape (now (transition .entry)) (now (emission .entry)) (now (initial .entry)) (now (end .entry)) (now (samples .entry)))
-        (outputs (now (path .entry)) (now (values .entry)) (now (from .entry)))
-        r
-        (outputs (now (path .exit)) (now (values .exit)) (now (from .exit))) ⌝ }
-{
-    let states = shape.states;
-    rows(
-        states,
-        shape.symbols,
-        transition,
-        emission,
-        initial,
-        samples,
-        values,
-        from,
-    );
-    let n = samples.len();
-    let start = (n - 1) * states;
-    let stop = start + states;
-    let row = &values[start..stop];
-    let last = last_state(shape.ends, end, row);
-    trace(states, &from[..], n, last, 0, path);
-    close(shape.ends, end, row, last)
-}
+ghost use Rattle.viterbi.specs.inner.Parts.{checkedFor};
 
 // The checks 1 to 8, in their order; of the outputs only the lengths are needed.
 fn check(
@@ -101,8 +57,8 @@ fn check(
 }
 
 // The best path through the model for these samples: its states in `path`, its value in the answer, and the value and the
-// predecessor of every state at every sample in `values` and `from`, T rows of S. Without a sample the answer is minus infinity,
-// and nothing is written. Refused, nothing is written either.
+// predecessor of every state at every sample in `values` and `from`, T rows of S. No state is barred at any of the T samples. Without a
+// sample the answer is minus infinity, and nothing is written. Refused, nothing is written either.
 pub fn viterbi(
     shape: Shape,
     transition: &[f64],
@@ -144,6 +100,8 @@ pub fn viterbi(
         initial,
         end,
         samples,
+        samples.len(),
+        0,
         path,
         values,
         from,

@@ -7,7 +7,9 @@ use Rattle.answer.specs.declared.Answer.{Answer}
 use Rattle.model.specs.declared.Shape.{Shape}
 use Rattle.wasnugram.specs.declared.WasnugramAnswer.{WasnugramAnswer}
 use Rattle.model_file.specs.declared.Reading.{Reading}
+use Rattle.rival.specs.declared.Rivalry.{Rivalry}
 use Rattle.wasnugram.specs.declared.WasnugramReading.{WasnugramReading}
+use Rattle.wasnugram.specs.declared.WasnugramRivalry.{WasnugramRivalry}
 use Rattle.wasnugram.specs.declared.WasnugramShape.{WasnugramShape}
 
 -- an end state where the byte is not 0
@@ -22,32 +24,31 @@ flatShape s = record { states = s .states; symbols = s .symbols; ends = cond (s 
 abbrev pub flattened : Answer → WasnugramAnswer
 flattened a = record { refusal = numberOf (a .refusal); table = a .table; place = a .place; value = a .value }
 
--- both beside each other
+-- what a reader gives back, and what `rival` does
 abbrev pub flatReading : Reading → WasnugramReading
 flatReading r = record { answer = flattened (r .answer); shape = flatShape (r .shape) }
 
--- an export's promise: its answer is that of a call that keeps the promise
-pub record Answers (promise : Answer → Type 0) (r : WasnugramAnswer) : Type 0 where
-  pub answer : Answer
-  pub promised : promise answer
-  pub flat : r ≡ flattened answer
+abbrev pub flatRivalry : Rivalry → WasnugramRivalry
+flatRivalry r = record { answer = flattened (r .answer); chosen = r .chosen; best = r .best }
 
--- a reader's export: its reading is that of a call that keeps the promise
-pub record Reads (promise : Reading → Type 0) (r : WasnugramReading) : Type 0 where
-  pub reading : Reading
-  pub promised : promise reading
-  pub flat : r ≡ flatReading reading
+-- an export's promise: it gives, flattened, what a call gives that keeps the promise
+pub record Gives {Result Flat : Type 0} (flattens : Result → Flat) (promise : Result → Type 0) (r : Flat) : Type 0 where
+  pub result : Result
+  pub promised : promise result
+  pub flat : r ≡ flattens result
 
--- where one result meets the promise of a call, answer and memory, one result meets that of its export
+abbrev pub Answers : (Answer → Type 0) → WasnugramAnswer → Type 0
+Answers = Gives flattened
+
+abbrev pub Reads : (Reading → Type 0) → WasnugramReading → Type 0
+Reads = Gives flatReading
+
+abbrev pub Tells : (Rivalry → Type 0) → WasnugramRivalry → Type 0
+Tells = Gives flatRivalry
+
+-- where one result meets the promise of a call, with its memory, one result meets that of its export
 abbrev pub FaceIsUnique : Type 1
 FaceIsUnique =
-    (Memory : Type 0) (promise : Memory → Answer → Type 0)
-    → ((x y : Answer × Memory) → promise (x .1) (x .0) → promise (y .1) (y .0) → x ≡ y)
-    → (r s : WasnugramAnswer × Memory) → Answers (promise (r .1)) (r .0) → Answers (promise (s .1)) (s .0) → r ≡ s
-
--- and the same of a reader's
-abbrev pub ReadingIsUnique : Type 1
-ReadingIsUnique =
-    (Memory : Type 0) (promise : Memory → Reading → Type 0)
-    → ((x y : Reading × Memory) → promise (x .1) (x .0) → promise (y .1) (y .0) → x ≡ y)
-    → (r s : WasnugramReading × Memory) → Reads (promise (r .1)) (r .0) → Reads (promise (s .1)) (s .0) → r ≡ s
+    (Result Flat Memory : Type 0) (flattens : Result → Flat) (promise : Memory → Result → Type 0)
+    → ((x y : Result × Memory) → promise (x .1) (x .0) → promise (y .1) (y .0) → x ≡ y)
+    → (r s : Flat × Memory) → Gives flattens (promise (r .1)) (r .0) → Gives flattens (promise (s .1)) (s .0) → r ≡ s

@@ -9,11 +9,13 @@ ghost use Rattle.kernels.specs.Calls.{expAnswer, lnAnswer, ln1mAnswer};
 ghost use Rattle.probs.specs.Calls.{lnSumExpAnswer, lnAddExpAnswer, lnSubExpAnswer, capAnswer, Cumulated};
 ghost use Rattle.model.specs.Lent.{tablesOf, lent};
 ghost use Rattle.viterbi.specs.Call.{Decoded, outputs};
+ghost use Rattle.rival.specs.declared.Rivalry.{Rivalry};
+ghost use Rattle.rival.specs.Call.{asked, Told, outputs as rivals};
 ghost use Rattle.likelihood.specs.Call.{Forward, Backward};
 ghost use Rattle.baum_welch.specs.Call.{Trained, outputs as trained};
 ghost use Rattle.model_file.specs.declared.Reading.{Reading};
 ghost use Rattle.model_file.specs.Call.{Read, Written, lengthOf, outputs as tables};
-ghost use Rattle.wasnugram.specs.Face.{shapeOf, flatShape, flattened, Answers, Reads};
+ghost use Rattle.wasnugram.specs.Face.{shapeOf, flatShape, flattened, Answers, Reads, Tells};
 
 // S states, M symbols, and whether the model has an end state: 0 for no, anything else for yes.
 #[repr(C)]
@@ -37,6 +39,14 @@ pub struct WasnugramAnswer {
 pub struct WasnugramReading {
     pub answer: WasnugramAnswer,
     pub shape: WasnugramShape,
+}
+
+// What `wasnugram_rival` gives back: its answer, the state that the best path has at the sample, and the best path's value.
+#[repr(C)]
+pub struct WasnugramRivalry {
+    pub answer: WasnugramAnswer,
+    pub chosen: usize,
+    pub best: f64,
 }
 
 // An answer as C takes it.
@@ -99,6 +109,56 @@ pub extern "C" fn wasnugram_viterbi(
         values,
         from,
     ))
+}
+
+// The strongest rival of the best path at a sample.
+#[no_mangle]
+pub extern "C" fn wasnugram_rival(
+    shape: WasnugramShape,
+    transition: &[f64],
+    emission: &[f64],
+    initial: &[f64],
+    end: &[f64],
+    samples: &[u16],
+    index: usize,
+    path: &mut [u8],
+    rival_path: &mut [u8],
+    values: &mut [f64],
+    from: &mut [u8],
+) -> WasnugramRivalry
+    ensures { λ r. ⌜ Tells (λ (a : Rivalry). Told
+        (asked
+        (lent (shapeOf shape) (now (transition .entry)) (now (emission .entry)) (now (initial .entry)) (now (end .entry))
+        (now (samples .entry)))
+        index)
+        (rivals (now (path .entry)) (now («rival_path» .entry)) (now (values .entry)) (now (from .entry)))
+        a
+        (rivals (now (path .exit)) (now («rival_path» .exit)) (now (values .exit)) (now (from .exit)))) r ⌝ }
+{
+    let shape = Shape {
+        states: shape.states,
+        symbols: shape.symbols,
+        ends: shape.ends != 0,
+    };
+    let rivalry = rival::rival(
+        shape,
+        transition,
+        emission,
+        initial,
+        end,
+        samples,
+        index,
+        path,
+        rival_path,
+        values,
+        from,
+    );
+    let answer = rivalry.answer;
+    WasnugramRivalry {
+        answer: flat(answer),
+        chosen: rivalry.chosen,
+        best: rivalry.best,
+    }
 }
 
 // The forward walk: how likely the samples are.

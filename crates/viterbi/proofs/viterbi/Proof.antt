@@ -1,14 +1,18 @@
 -- `viterbi::viterbi` meets its contract, in each of the three ways in which it returns.
 use mathlib.Core.Path.{_≡_, sym, ap, _∙_}
 use mathlib.Core.Bool.{true, false}
+use native.Mathlib.Nat.{le-refl}
 use native.Mathlib.Omega.{arith}
 use denote.Ref.{now}
 use borrow.Author.Needs.{needs}
 use borrow.Author.Tests.{not-true, not-false}
 use Rattle.answer.specs.Answer.{isDone, done}
-use Rattle.model.specs.Lent.{Lent, lent}
+use Rattle.model.specs.Lent.{Lent, lent, T}
+use Rattle.model.specs.Model.{modelOf}
 use Rattle.checks.specs.LetThrough.{LetThrough}
 use Rattle.checks.proofs.Done.{let-through}
+use Rattle.walk.proofs.Ready.{decodable}
+use Rattle.walk.proofs.Plain.{found-plain}
 use Rattle.viterbi.specs.Call.{Outputs, outputs, rooms, checked}
 use Rattle.viterbi.proofs.Outcome.{is-refused, is-empty, is-walked}
 use Rattle.viterbi.proofs.viterbi.Statement.{statement}
@@ -67,21 +71,7 @@ decode-requires c κs =
     let p = e .before in
     let t = p .before in
     let h : LetThrough false (rooms (given t) (lentOut t)) (given t) = let-through false _ (given t) (passed p) in
-    let m = h .accepted .tables in
-    record {
-      walkable = record {
-        someState = m .inRange .someState;
-        fewStates = m .inRange .fewStates;
-        transitionLength = m .transitionLength;
-        initialLength = m .initialLength;
-        valuesRoom = h .roomy .1 .0;
-        fromRoom = h .roomy .1 .1 .0;
-      };
-      symbolic = record { emissionLength = m .emissionLength; known = h .accepted .samples .known };
-      endLength = m .endLength;
-      someSample = omega (arith, e .if2 .left);
-      pathRoom = h .roomy .0;
-    }
+    decodable (given t) _ _ _ (h .accepted) (omega (arith, e .if2 .left)) (h .roomy .0) (h .roomy .1 .0) (h .roomy .1 .1 .0)
 
 done-requires-2 : tie.Need-done-requires-2
 done-requires-2 c κs = search needs
@@ -99,7 +89,9 @@ returns-3 : tie.Need-returns-3
 returns-3 c =
     let d = walk (c .before) .before .before in
     let p = d .before .before .before .before .before in
-    is-walked (given (p .before)) (lentOut (p .before)) _ (passed p) _ _ (d .decode .ensures) (c .done2 .ensures)
+    let l = given (p .before) in
+    is-walked l (lentOut (p .before)) _ (passed p) _ _ (found-plain (modelOf l) _ _ (T l) (le-refl _) _ _ _ _ _ _ _ (d .decode .ensures))
+    (c .done2 .ensures)
 
 pub viterbi-spec : {M : Type 1} → statement M
 viterbi-spec =

@@ -38,7 +38,7 @@ returns c =
     let f = c .before in
     let r = called (f .before .before) in
     record {
-      reading = r .read-model .result;
+      result = r .read-model .result;
       promised = r .read-model .ensures;
       flat = λ i. record { answer = f .flat .ensures i; shape = c .flat-shape .ensures i };
     }

@@ -1,0 +1,1 @@
+// What is promised of model files. There is no code.

@@ -1,0 +1,1 @@
+// What is promised of the kernels, and of an entry's bits. There is no code.

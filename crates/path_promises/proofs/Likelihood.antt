@@ -1,0 +1,76 @@
+-- Forward is never below Viterbi: a sum is at least each of its terms, and the best predecessor's is one of them.
+use Prim.Native.Nat.{ℕ, zero, suc, _-_, _<_}
+use mathlib.Core.Path.{_≡_}
+use mathlib.Core.Bool.{Bool, true, false}
+use native.Mathlib.Nat.{lt-suc-self}
+use native.Mathlib.Omega.{arith}
+use lib.Dec.{T}
+use lib.Ieee.{Float, binary64, le, fits}
+use Rattle.floats.specs.Float.{_⊕_, capped}
+use Rattle.floats.proofs.Order.{le-self, le-le}
+use Rattle.floats.proofs.Add.{add-mono, add-ge}
+use Rattle.floats.proofs.Ceiling.{most, lid-add, lid-number, lid-capped}
+use Rattle.floats.proofs.PlusZero.{plus-zero-bounds}
+use Rattle.model.specs.Lent as Lent
+use Rattle.model.specs.Lent.{Lent}
+use Rattle.model.specs.Good.{goodEnd}
+use Rattle.model.specs.Accepted.{Accepted}
+use Rattle.model.specs.Model.{Model, modelOf}
+use Rattle.model.proofs.Low.{Low, accepted-low}
+use Rattle.best_path.specs.Walk.{cell, ended, closed, value, from, lastState, bestValue}
+use Rattle.best_path.proofs.States.{from-below, last-below}
+use Rattle.best_path.proofs.Bounds.{entry-capped, entry-itself}
+use Rattle.likelihood.specs.Walk.{alpha, forwardValue}
+use Rattle.likelihood.proofs.Bounds.{alpha-lid, alpha-above, alpha-fits, forward-above}
+use Rattle.path_promises.specs.Likelihood.{ForwardIsAbove, LikelihoodIsAbove}
+
+module _ (m : Model) (n : ℕ) (low : Low m n) (some : 0 < m .states) where
+  cells-above : (t j : ℕ) → t < n → j < m .states → T (le (value m t j) (alpha m t j))
+  unfolding value alpha from cell
+  cells-above zero j h s = le-self (alpha m 0 j) (lid-number (alpha m 0 j) (alpha-lid m n low 0 j h s))
+  cells-above (suc t) j h s =
+      let w = from m (suc t) j in
+      let i : w < m .states = from-below m some t j in
+      let a = m .transition w j in
+      let e = m .emission (suc t) j in
+      let a-most = low .transition w j i s in
+      let e-most = low .emission (suc t) j h s in
+      let top = alpha-lid m n low t w (omega arith) i in
+      let arc : T (le (value m t w ⊕ a) (alpha m t w ⊕ a))
+      = add-mono binary64 (value m t w) (alpha m t w) a a (lid-capped _ top) (entry-capped a a-most)
+      (cells-above t w (omega arith) i) (entry-itself a a-most) in
+      le-le _ ((alpha m t w ⊕ a) ⊕ e) _
+      (add-mono binary64 (value m t w ⊕ a) (alpha m t w ⊕ a) e e
+      (lid-capped _ (lid-add _ a top a-most)) (entry-capped e e-most) arc (entry-itself e e-most))
+      (alpha-above m n low t j w h s i)
+
+pub forward-is-above : ForwardIsAbove
+forward-is-above l a t j h s = cells-above (modelOf l) (Lent.T l) (accepted-low l a) (a .tables .inRange .someState) t j h s
+
+-- forward adds the end entry in any case: without an end state it is +0.0
+ended-above : (ends : Bool) (e x y : Float) → T (goodEnd ends e) → T (le e most) → T (fits binary64 y) → T (capped y) → T (le x y)
+    → T (le (ended ends e x) (y ⊕ e))
+unfolding ended goodEnd
+ended-above true e x y g h f c l = add-mono binary64 x y e e c (entry-capped e h) l (entry-itself e h)
+ended-above false e x y g h f c l = le-le x y (y ⊕ e) l (add-ge binary64 y e f c (plus-zero-bounds e g .0) (entry-capped e h))
+
+-- ---- the answers, where the last sample is at time n
+module _ (l : Lent) (a : Accepted l) where
+  value-above : (n : ℕ) → Lent.T l ≡ suc n → T (le (bestValue (modelOf l) (suc n)) (forwardValue (modelOf l) (suc n)))
+  unfolding bestValue
+  value-above n long =
+      let m = modelOf l in
+      let b = a .tables in
+      let low : Low m (suc n) = rw long at (accepted-low l a) in
+      let j = lastState m n in
+      let s : j < m .states = last-below m (b .inRange .someState) n in
+      let h = lt-suc-self n in
+      le-le (closed m j (value m n j)) (alpha m n j ⊕ m .end j) _
+      (ended-above (l .tables .shape .ends) (m .end j) (value m n j) (alpha m n j) (b .endGood j (rw (b .endLength) s)) (low .end j s)
+      (alpha-fits m n j) (lid-capped _ (alpha-lid m (suc n) low n j h s)) (cells-above m (suc n) low (b .inRange .someState) n j h s))
+      (forward-above m n low j s)
+
+pub likelihood-is-above : LikelihoodIsAbove
+likelihood-is-above l a some =
+    let long : Lent.T l ≡ suc (Lent.T l - 1) = omega arith in
+    rw long (value-above l a (Lent.T l - 1) long)

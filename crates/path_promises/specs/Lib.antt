@@ -1,0 +1,5 @@
+pub mod BestPath
+pub mod Calls
+pub mod WayOut
+pub mod Rival
+pub mod Likelihood

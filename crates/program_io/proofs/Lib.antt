@@ -1,3 +1,0 @@
-pub mod Other
-pub mod Spans
-pub mod Whole

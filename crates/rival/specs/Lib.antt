@@ -1,0 +1,2 @@
+pub mod Call
+pub mod inner
