@@ -1,22 +1,22 @@
-//! Times rivals in turn and prints their ratios.
+//! Times contestants in turn and prints their ratios.
 
 use std::time::Instant;
 
-/// How often each rival has a turn, and how long a turn is at least.
+/// How often each contestant has a turn, and how long a turn is at least.
 const TURNS: usize = 15;
 const SECONDS: f64 = 0.002;
 
 /// One way to do the same work.
-pub type Rival<'a> = Box<dyn FnMut() + 'a>;
+pub type Contestant<'a> = Box<dyn FnMut() + 'a>;
 
 /// Plain Rust, and the others where they are at hand.
-pub struct Rivals<'a> {
-    pub plain: Rival<'a>,
-    pub bio: Option<Rival<'a>>,
-    pub library: Option<Rival<'a>>,
+pub struct Contestants<'a> {
+    pub plain: Contestant<'a>,
+    pub bio: Option<Contestant<'a>>,
+    pub library: Option<Contestant<'a>>,
 }
 
-/// Seconds for one run of each rival: the best turn of each, the turns taken one after the other so that what else the
+/// Seconds for one run of each contestant: the best turn of each, the turns taken one after the other so that what else the
 /// machine does falls on all alike.
 pub struct Times {
     pub plain: f64,
@@ -24,7 +24,7 @@ pub struct Times {
     pub library: Option<f64>,
 }
 
-impl Rivals<'_> {
+impl Contestants<'_> {
     pub fn times(mut self) -> Times {
         let mut times = Times {
             plain: f64::INFINITY,
@@ -39,7 +39,7 @@ impl Rivals<'_> {
         times
     }
 
-    /// Times the rivals and prints a line; each does so many calls in a run.
+    /// Times the contestants and prints a line; each does so many calls in a run.
     pub fn print(self, name: &str, calls: usize) {
         let times = self.times();
         let absent = || "-".to_string();
@@ -61,18 +61,28 @@ impl Rivals<'_> {
     }
 }
 
-fn better(best: &mut Option<f64>, rival: &mut Option<Rival>) {
-    if let (Some(best), Some(rival)) = (best, rival) {
-        *best = best.min(turn(rival));
+/// How many times as long the first takes as the second, by the best turn of each.
+pub fn ratio(mut over: Contestant, mut under: Contestant) -> f64 {
+    let (mut longer, mut shorter) = (f64::INFINITY, f64::INFINITY);
+    for _ in 0..TURNS {
+        longer = longer.min(turn(&mut over));
+        shorter = shorter.min(turn(&mut under));
+    }
+    longer / shorter
+}
+
+fn better(best: &mut Option<f64>, contestant: &mut Option<Contestant>) {
+    if let (Some(best), Some(contestant)) = (best, contestant) {
+        *best = best.min(turn(contestant));
     }
 }
 
 /// Seconds for one run, from as many runs as fill a turn.
-fn turn(rival: &mut Rival) -> f64 {
+fn turn(contestant: &mut Contestant) -> f64 {
     let started = Instant::now();
     let mut runs = 0;
     loop {
-        rival();
+        contestant();
         runs += 1;
         let seconds = started.elapsed().as_secs_f64();
         if seconds >= SECONDS {

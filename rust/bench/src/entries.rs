@@ -3,7 +3,7 @@
 //! What is timed is Viterbi without samples, which is the checks of a call and nothing else, against a plain loop over the
 //! entries alone, which asks of each whether it is NaN or above 0 and stops at the first that is.
 
-use crate::contest::Rivals;
+use crate::contest::Contestants;
 use crate::walks::on_lent_memory;
 use compare::case::{of_kinds, Case, Kind, Sizes};
 use compare::engine::{self, Engine};
@@ -39,25 +39,25 @@ pub fn good_model() -> Case {
     case
 }
 
-/// Times a model that has this fault, or none, and prints a line. Both rivals must find the fault, which is looked at
+/// Times a model that has this fault, or none, and prints a line. Both contestants must find the fault, which is looked at
 /// before the clock starts.
 fn print(name: &str, case: &Case, fault: Option<Fault>) {
     assert_eq!(first_fault(case), fault, "the plain loop");
     let library = engine::library().inspect(|library| must_name(library, case, fault));
-    let rivals = Rivals {
+    let contestants = Contestants {
         plain: Box::new(|| {
             black_box(first_fault(black_box(case)));
         }),
         bio: None,
         library: library.map(|library| on_lent_memory(library, Call::Viterbi, case)),
     };
-    rivals.print(name, 1);
+    contestants.print(name, 1);
 }
 
 /// Holds the library's answer to the fault: refusal 7 that names it, or done. The value is minus infinity in both.
 fn must_name(library: &Engine, case: &Case, fault: Option<Fault>) {
     let mut outputs = lend(Call::Viterbi, case, &mut Random::new(2));
-    let answer = (library.call)(Call::Viterbi, case, &mut outputs);
+    let answer = (library.call)(Call::Viterbi, case, &mut outputs).answer;
     let expected = match fault {
         Some((table, place)) => Answer::refused(NOT_GOOD, table, place),
         None => Answer::done(f64::NEG_INFINITY),

@@ -1,6 +1,6 @@
 //! The kernels and the sum, on many arguments in a run.
 
-use crate::contest::{Rival, Rivals};
+use crate::contest::{Contestant, Contestants};
 use compare::engine::{self, REFERENCE};
 use compare::random::Random;
 use std::hint::black_box;
@@ -15,25 +15,25 @@ pub fn contest() {
     let bio = oracle::modes().map(|modes| modes.published.leaves);
     let (ours, library) = (REFERENCE.leaves, engine::library().map(|library| library.leaves));
 
-    let written = Rivals {
+    let written = Contestants {
         plain: on_each(&below, reference::kernels::exp_as_written),
         bio: bio.map(|bio| on_each(&below, bio.fastexp)),
         library: library.map(|library| on_each(&below, move |d| (library.exp)(d).value)),
     };
     written.print("exp, plain loop as written", ARGUMENTS);
-    let exp = Rivals {
+    let exp = Contestants {
         plain: on_each(&below, move |d| (ours.exp)(d).value),
         bio: bio.map(|bio| on_each(&below, bio.fastexp)),
         library: library.map(|library| on_each(&below, move |d| (library.exp)(d).value)),
     };
     exp.print("exp, plain shaped for speed", ARGUMENTS);
-    let ln = Rivals {
+    let ln = Contestants {
         plain: on_each(&above, move |x| (ours.ln)(x).value),
         bio: bio.map(|bio| on_each(&above, bio.log_of_prob)),
         library: library.map(|library| on_each(&above, move |x| (library.ln)(x).value)),
     };
     ln.print("ln (bio: the library's)", ARGUMENTS);
-    let sum = Rivals {
+    let sum = Contestants {
         plain: on_rows(&below, move |xs| (ours.ln_sum_exp)(xs).value),
         bio: bio.map(|bio| on_rows(&below, bio.ln_sum_exp)),
         library: library.map(|library| on_rows(&below, move |xs| (library.ln_sum_exp)(xs).value)),
@@ -41,7 +41,7 @@ pub fn contest() {
     sum.print("ln_sum_exp of 12", ARGUMENTS / LENGTH);
 }
 
-fn on_each<'a>(arguments: &'a [f64], leaf: impl Fn(f64) -> f64 + 'a) -> Rival<'a> {
+fn on_each<'a>(arguments: &'a [f64], leaf: impl Fn(f64) -> f64 + 'a) -> Contestant<'a> {
     Box::new(move || {
         for argument in arguments {
             black_box(leaf(black_box(*argument)));
@@ -49,7 +49,7 @@ fn on_each<'a>(arguments: &'a [f64], leaf: impl Fn(f64) -> f64 + 'a) -> Rival<'a
     })
 }
 
-fn on_rows<'a>(arguments: &'a [f64], leaf: impl Fn(&[f64]) -> f64 + 'a) -> Rival<'a> {
+fn on_rows<'a>(arguments: &'a [f64], leaf: impl Fn(&[f64]) -> f64 + 'a) -> Contestant<'a> {
     Box::new(move || {
         for row in arguments.chunks_exact(LENGTH) {
             black_box(leaf(black_box(row)));

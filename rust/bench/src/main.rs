@@ -5,11 +5,13 @@
 //! a heading says that it is the loop as RULES 4.1 reads. The library and plain Rust count their checks; bio makes none,
 //! and allocates what it returns. bio's Viterbi leaves an end state out, so that the line with one has no ratio to bio.
 //! Where entries are checked, the library makes all checks of a call, and plain Rust is a loop over the entries alone.
+//! Plain Rust's rival walks on from a row of the reference's best path.
 
 mod contest;
 mod entries;
 mod leaves;
 mod model_file;
+mod rival;
 mod walks;
 
 use compare::engine::REFERENCE;
@@ -24,6 +26,8 @@ fn main() {
     }
     print_heading("with an end state");
     walks::viterbi_with_end_state(12, 240);
+    print_heading("the strongest rival");
+    rival::contest(12, 240);
     print_heading("entries checked");
     entries::contest();
     print_heading("model file");

@@ -3,7 +3,7 @@
 //! Plain Rust makes the library's checks in its order. It goes over a body for its sum, again for its entries, as numbers,
 //! and again to copy them. A reader that looked at the entries as whole numbers took a seventh more time.
 
-use crate::contest::{Rival, Rivals};
+use crate::contest::{Contestant, Contestants};
 use crate::entries::good_model;
 use crate::walks::without_bio;
 use compare::engine::{self, Engine, REFERENCE};
@@ -26,15 +26,15 @@ pub fn contest() {
 /// Times both readers on a file, and prints a line.
 fn print_reading(name: &str, lent: &Lent) {
     must_be_right(|engine| by_the_rule(engine, lent));
-    let rivals = Rivals {
+    let contestants = Contestants {
         plain: reading(REFERENCE, lent),
         bio: None,
         library: engine::library().map(|library| reading(library, lent)),
     };
-    rivals.print(name, 1);
+    contestants.print(name, 1);
 }
 
-/// Both rivals do all of the work, which is looked at before the clock starts.
+/// Both contestants do all of the work, which is looked at before the clock starts.
 fn must_be_right(judged: impl Fn(&Engine) -> Verdict) {
     for engine in [Some(REFERENCE), engine::library()].iter().flatten() {
         assert_eq!(judged(engine).wrong, None);
@@ -42,7 +42,7 @@ fn must_be_right(judged: impl Fn(&Engine) -> Verdict) {
 }
 
 /// A reading, each time into the same lent tables.
-fn reading(engine: Engine, lent: &Lent) -> Rival<'_> {
+fn reading(engine: Engine, lent: &Lent) -> Contestant<'_> {
     let mut tables = lent.lengths.map(|length| vec![0.0; length]);
     Box::new(move || {
         let [transition, emission, initial, end] = &mut tables;

@@ -1,13 +1,12 @@
 //! The calls on a model.
 
-use crate::contest::{Rival, Rivals, Times};
+use crate::contest::{Contestant, Contestants, Times};
 use compare::case::{of_kinds, Case, Kind, Sizes};
-use compare::engine::{self, Engine, REFERENCE};
+use compare::engine::{self, Engine, Given, REFERENCE};
 use compare::lent::{lend, Call, Output};
 use compare::random::Random;
 use oracle::Walks;
 use reference::likelihood::{backward_as_written, forward_as_written};
-use reference::Answer;
 use std::hint::black_box;
 
 /// The reference with the exp that is a loop as RULES 4.1 reads, for the two calls that have it.
@@ -16,12 +15,13 @@ pub const AS_WRITTEN: Engine = Engine {
     ..REFERENCE
 };
 
-fn as_written(call: Call, case: &Case, outputs: &mut [Output]) -> Answer {
-    match (call, outputs) {
+fn as_written(call: Call, case: &Case, outputs: &mut [Output]) -> Given {
+    let answer = match (call, outputs) {
         (Call::Forward, [Output::Numbers(values)]) => forward_as_written(&case.model(), &case.samples, values),
         (Call::Backward, [Output::Numbers(values)]) => backward_as_written(&case.model(), &case.samples, values),
         _ => unreachable!("forward and backward are timed so"),
-    }
+    };
+    answer.into()
 }
 
 /// Times one call against plain Rust and bio, and prints a line.
@@ -29,12 +29,12 @@ pub fn contest(plain: Engine, call: Call, states: usize, samples: usize) {
     let case = case(states, samples);
     let wide = case.wide_samples();
     let model = oracle::modes().and_then(|modes| (modes.published.model)(&case.model()));
-    let rivals = Rivals {
+    let contestants = Contestants {
         plain: on_lent_memory(plain, call, &case),
         bio: model.as_ref().map(|model| bio(call, model.as_ref(), &wide)),
         library: engine::library().map(|library| on_lent_memory(library, call, &case)),
     };
-    rivals.print(&format!("{} S {states} T {samples}", call.name()), 1);
+    contestants.print(&format!("{} S {states} T {samples}", call.name()), 1);
 }
 
 /// Times Viterbi with an end state, whose table is the initial one, against plain Rust, and prints a line. bio leaves the
@@ -76,8 +76,8 @@ fn forward_alone(states: usize, samples: usize) -> Times {
 }
 
 /// Plain Rust, and the library where it is at hand.
-pub fn without_bio(call: Call, case: &Case) -> Rivals<'_> {
-    Rivals {
+pub fn without_bio(call: Call, case: &Case) -> Contestants<'_> {
+    Contestants {
         plain: on_lent_memory(REFERENCE, call, case),
         bio: None,
         library: engine::library().map(|library| on_lent_memory(library, call, case)),
@@ -85,7 +85,7 @@ pub fn without_bio(call: Call, case: &Case) -> Rivals<'_> {
 }
 
 /// A random model without an end state whose rows are distributions.
-fn case(states: usize, samples: usize) -> Case {
+pub fn case(states: usize, samples: usize) -> Case {
     let sizes = Sizes {
         states,
         symbols: 64,
@@ -95,19 +95,19 @@ fn case(states: usize, samples: usize) -> Case {
 }
 
 /// A call on a case, each time on the same lent memory.
-pub fn on_lent_memory(engine: Engine, call: Call, case: &Case) -> Rival<'_> {
+pub fn on_lent_memory(engine: Engine, call: Call, case: &Case) -> Contestant<'_> {
     let mut outputs = lend(call, case, &mut Random::new(2));
     Box::new(move || {
         black_box((engine.call)(call, black_box(case), &mut outputs));
     })
 }
 
-fn bio<'a>(call: Call, model: &'a dyn Walks, samples: &'a [usize]) -> Rival<'a> {
+fn bio<'a>(call: Call, model: &'a dyn Walks, samples: &'a [usize]) -> Contestant<'a> {
     match call {
         Call::Viterbi => Box::new(|| drop(black_box(model.viterbi(black_box(samples))))),
         Call::Forward => Box::new(|| drop(black_box(model.forward(black_box(samples))))),
         Call::Backward => Box::new(|| drop(black_box(model.backward(black_box(samples))))),
         Call::BaumWelch => Box::new(|| drop(black_box(model.baum_welch(black_box(samples))))),
-        Call::WriteModel => unreachable!("bio has no model file"),
+        Call::WriteModel | Call::Rival => unreachable!("bio has neither a model file nor a rival"),
     }
 }

@@ -4,7 +4,7 @@ use crate::random::Random;
 use reference::model::{MOST_SAMPLES, MOST_STATES, MOST_SYMBOLS};
 use reference::{Model, Shape};
 
-/// A model and its samples, owned.
+/// A model and its samples, owned, and the index that `rival` is lent with them.
 #[derive(Clone, Debug)]
 pub struct Case {
     pub shape: Shape,
@@ -13,6 +13,7 @@ pub struct Case {
     pub initial: Vec<f64>,
     pub end: Vec<f64>,
     pub samples: Vec<u16>,
+    pub index: usize,
 }
 
 impl Case {
@@ -44,6 +45,11 @@ impl Case {
         without
     }
 
+    /// The same with another index.
+    pub fn at(&self, index: usize) -> Case {
+        Case { index, ..self.clone() }
+    }
+
     /// The samples as bio takes them.
     pub fn wide_samples(&self) -> Vec<usize> {
         self.samples.iter().map(|sample| usize::from(*sample)).collect()
@@ -71,7 +77,8 @@ pub enum Kind {
     Mixed,
 }
 
-const KINDS: [Kind; 8] = [
+/// Every kind.
+pub const KINDS: [Kind; 8] = [
     Kind::Ordinary,
     Kind::Normalised,
     Kind::Ties,
@@ -123,7 +130,7 @@ pub fn ordinary(sizes: Sizes, random: &mut Random) -> Case {
     of_kinds(sizes, [Kind::Ordinary; 4], random)
 }
 
-/// A case of these sizes with tables of these kinds.
+/// A case of these sizes with tables of these kinds, at index 0.
 pub fn of_kinds(sizes: Sizes, kinds: [Kind; 4], random: &mut Random) -> Case {
     let Sizes { states, symbols, .. } = sizes;
     let ends = random.once_in(2);
@@ -138,6 +145,7 @@ pub fn of_kinds(sizes: Sizes, kinds: [Kind; 4], random: &mut Random) -> Case {
             vec![0.0; states]
         },
         samples: samples(sizes, random),
+        index: 0,
     }
 }
 

@@ -1,6 +1,7 @@
 //! What is compared with what, on which cases.
 
 mod model_files;
+mod rivals;
 
 use crate::case::{self, Case, Sizes};
 use crate::damage::damaged;
@@ -39,6 +40,9 @@ pub struct Amount {
     /// Rounds of model files, 27 cases each; one round in sixteen is on a model of any size, and 64 of those have every
     /// number of states.
     pub files: usize,
+    /// Models of any size whose rivals are compared, and as many damaged ones; and small ones with all of their paths.
+    pub rivals: usize,
+    pub few_paths: usize,
 }
 
 /// What there is to compare, and what was found.
@@ -68,6 +72,7 @@ impl Comparison {
         comparison.leaves(amount);
         comparison.entries(amount);
         comparison.model_files(amount);
+        comparison.rivals(amount);
         println!();
         comparison.tally.print();
         comparison.tally.wrong()
@@ -84,6 +89,12 @@ impl Comparison {
             Some(_) => println!("proved library: linked"),
             None => println!("proved library: left out of this build; not compared"),
         }
+    }
+
+    /// Each of those who take part, with a name.
+    fn engines(&self) -> impl Iterator<Item = (&'static str, Engine)> {
+        let library = self.library.map(|library| ("library", library));
+        std::iter::once(("reference", REFERENCE)).chain(library)
     }
 
     /// Adds a verdict on a case, and prints the first wrong one of its row, with the smallest case that shows it. Gives
@@ -214,7 +225,7 @@ impl Comparison {
         }
     }
 
-    /// Damaged models, for every refusal from 1 to 8 in every call.
+    /// Damaged models, for every refusal from 1 to 8 in every call on a model and its samples.
     fn damaged(&mut self, amount: &Amount) {
         for number in 0..amount.damaged {
             self.damaged_call(CALLS[number % CALLS.len()], number);
@@ -228,7 +239,10 @@ impl Comparison {
             samples: self.random.below(33),
             ..Sizes::sweep(number, 0, &mut self.random)
         };
-        let case = case::any(sizes, &mut self.random);
+        let mut case = case::any(sizes, &mut self.random);
+        if call.takes_index() {
+            case.index = self.random.below(sizes.samples.max(1));
+        }
         let Some(damaged) = damaged(call, &case, &mut self.random) else {
             return;
         };

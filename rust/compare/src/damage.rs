@@ -1,11 +1,11 @@
-//! Damage that leads to each of the refusals 1 to 8, and what the refusal must name.
+//! Damage that leads to each of the refusals 1 to 8 and to 16, and what the refusal must name.
 
 use crate::case::Case;
 use crate::lent::{Call, Output};
 use crate::random::Random;
 use reference::answer::{
-    BAD_STATES, BAD_SYMBOLS, FIRST_OUTPUT, NOT_GOOD, NO_SAMPLES, OUTPUT_TOO_SHORT, SAMPLES, TOO_MANY_SAMPLES,
-    UNKNOWN_SYMBOL, WRONG_LENGTH,
+    BAD_INDEX, BAD_STATES, BAD_SYMBOLS, FIRST_OUTPUT, NOT_GOOD, NO_SAMPLES, OUTPUT_TOO_SHORT, SAMPLES,
+    TOO_MANY_SAMPLES, UNKNOWN_SYMBOL, WRONG_LENGTH,
 };
 
 /// The refusal, the table and the place that some damage leads to. Of several, the least in this order wins.
@@ -37,10 +37,12 @@ pub fn refusals(call: Call) -> impl Iterator<Item = u8> {
         OUTPUT_TOO_SHORT,
         NOT_GOOD,
         UNKNOWN_SYMBOL,
+        BAD_INDEX,
     ];
     all.into_iter().filter(move |refusal| match *refusal {
         NO_SAMPLES => call.needs_samples(),
         UNKNOWN_SYMBOL => call.takes_samples(),
+        BAD_INDEX => call.takes_index(),
         _ => true,
     })
 }
@@ -64,11 +66,25 @@ fn undamaged(case: &Case) -> Damaged {
     }
 }
 
+/// The kinds that are drawn, the last one where the call is lent an index.
+const KINDS: [u8; 9] = [
+    BAD_STATES,
+    BAD_SYMBOLS,
+    TOO_MANY_SAMPLES,
+    NO_SAMPLES,
+    WRONG_LENGTH,
+    OUTPUT_TOO_SHORT,
+    NOT_GOOD,
+    UNKNOWN_SYMBOL,
+    BAD_INDEX,
+];
+
 /// One to three kinds of damage to a case; none where it has no room for those drawn.
 pub fn damaged(call: Call, case: &Case, random: &mut Random) -> Option<Damaged> {
     let mut damaged = undamaged(case);
     let kinds = random.pick(&[1, 1, 1, 2, 3]);
-    let mut refusals: Vec<u8> = (0..kinds).map(|_| 1 + random.below(8) as u8).collect();
+    let drawn = &KINDS[..KINDS.len() - usize::from(!call.takes_index())];
+    let mut refusals: Vec<u8> = (0..kinds).map(|_| random.pick(drawn)).collect();
     // Entries before lengths before sizes, so that each kind finds what it damages; a length is damaged once.
     refusals.sort_unstable_by(|a, b| b.cmp(a));
     refusals.dedup_by(|a, b| a == b && *a < NOT_GOOD);
@@ -79,6 +95,9 @@ pub fn damaged(call: Call, case: &Case, random: &mut Random) -> Option<Damaged> 
     }
     if call.needs_samples() && damaged.case.samples.is_empty() {
         damaged.named = damaged.named.min((NO_SAMPLES, SAMPLES, 0));
+    }
+    if call.takes_index() && damaged.case.index >= damaged.case.samples.len() {
+        damaged.named = damaged.named.min((BAD_INDEX, 0, 0));
     }
     (damaged.named.0 != u8::MAX).then_some(damaged)
 }
@@ -93,6 +112,7 @@ fn damage(refusal: u8, call: Call, damaged: &mut Damaged, random: &mut Random) -
         WRONG_LENGTH => Some(wrong_length(damaged, random)),
         OUTPUT_TOO_SHORT => output_too_short(call, damaged, random),
         NOT_GOOD => Some(not_good(damaged, random)),
+        BAD_INDEX => bad_index(call, damaged, random),
         _ => unknown_symbol(damaged, random),
     }
 }
@@ -161,6 +181,18 @@ fn not_good(damaged: &mut Damaged, random: &mut Random) -> Named {
     let place = random.below(entries.len());
     entries[place] = bad;
     (NOT_GOOD, table as u8, place)
+}
+
+/// Moves the index to a place that no sample has: the first one, others near it, and great ones.
+fn bad_index(call: Call, damaged: &mut Damaged, random: &mut Random) -> Option<Named> {
+    if !call.takes_index() {
+        return None;
+    }
+    let length = damaged.case.samples.len();
+    damaged.case.index = random
+        .pick(&[length, length + 1, 2 * length + 1, 4096, 1 << 32, usize::MAX])
+        .max(length);
+    Some((BAD_INDEX, 0, 0))
 }
 
 fn unknown_symbol(damaged: &mut Damaged, random: &mut Random) -> Option<Named> {

@@ -5,15 +5,59 @@ mod proved;
 
 use crate::case::Case;
 use crate::lent::{Call, Output};
-use reference::{leaves, Answer, Estimates, Reading, Shape, Tables};
+use reference::{leaves, Answer, Estimates, Reading, Rivalry, Shape, Tables};
 
 /// Something that answers calls.
 #[derive(Clone, Copy)]
 pub struct Engine {
     /// A call on a model, on lent memory.
-    pub call: fn(Call, &Case, &mut [Output]) -> Answer,
+    pub call: fn(Call, &Case, &mut [Output]) -> Given,
     pub leaves: Leaves,
     pub model_file: ModelFile,
+}
+
+/// What a call on a model gives: its answer, and what `rival` alone gives beside it.
+#[derive(Clone, Copy, Debug)]
+pub struct Given {
+    pub answer: Answer,
+    pub beside: Option<Beside>,
+}
+
+/// The state that the best path has at the index, and the best path's value.
+#[derive(Clone, Copy, Debug)]
+pub struct Beside {
+    pub chosen: usize,
+    pub best: f64,
+}
+
+impl Given {
+    /// What a call gives that is refused: beside the answer there is no state chosen and nothing best.
+    pub fn refused(call: Call, answer: Answer) -> Given {
+        let none = Beside {
+            chosen: 0,
+            best: f64::NEG_INFINITY,
+        };
+        Given {
+            answer,
+            beside: call.takes_index().then_some(none),
+        }
+    }
+}
+
+impl From<Answer> for Given {
+    fn from(answer: Answer) -> Given {
+        Given { answer, beside: None }
+    }
+}
+
+impl From<Rivalry> for Given {
+    fn from(rivalry: Rivalry) -> Given {
+        let Rivalry { answer, chosen, best } = rivalry;
+        Given {
+            answer,
+            beside: Some(Beside { chosen, best }),
+        }
+    }
 }
 
 /// A leaf of one argument, and one of two.
@@ -71,16 +115,19 @@ pub fn library() -> Option<Engine> {
     None
 }
 
-fn reference_call(call: Call, case: &Case, outputs: &mut [Output]) -> Answer {
+fn reference_call(call: Call, case: &Case, outputs: &mut [Output]) -> Given {
     let model = case.model();
     match (call, outputs) {
         (Call::Viterbi, [Output::Bytes(path), Output::Numbers(values), Output::Bytes(from)]) => {
-            reference::viterbi(&model, &case.samples, path, values, from)
+            reference::viterbi(&model, &case.samples, path, values, from).into()
         }
-        (Call::Forward, [Output::Numbers(values)]) => reference::forward(&model, &case.samples, values),
-        (Call::Backward, [Output::Numbers(values)]) => reference::backward(&model, &case.samples, values),
-        (Call::BaumWelch, outputs) => reference::baum_welch(&model, &case.samples, &mut estimates(outputs)),
-        (Call::WriteModel, [Output::Bytes(file)]) => reference::write_model(&model, file),
+        (Call::Forward, [Output::Numbers(values)]) => reference::forward(&model, &case.samples, values).into(),
+        (Call::Backward, [Output::Numbers(values)]) => reference::backward(&model, &case.samples, values).into(),
+        (Call::BaumWelch, outputs) => reference::baum_welch(&model, &case.samples, &mut estimates(outputs)).into(),
+        (Call::WriteModel, [Output::Bytes(file)]) => reference::write_model(&model, file).into(),
+        (Call::Rival, [Output::Bytes(path), Output::Bytes(rival), Output::Numbers(values), Output::Bytes(from)]) => {
+            reference::rival(&model, &case.samples, case.index, path, rival, values, from).into()
+        }
         _ => unreachable!("each call is lent its own outputs"),
     }
 }

@@ -54,7 +54,7 @@ pub fn first_fault(case: &Case) -> Option<(u8, usize)> {
 /// where there are no samples, and of a refusal.
 pub fn by_the_rule(engine: &Engine, case: &Case, lent: Vec<Output>) -> Verdict {
     let mut outputs = lent.clone();
-    let answer = (engine.call)(Call::Viterbi, case, &mut outputs);
+    let answer = (engine.call)(Call::Viterbi, case, &mut outputs).answer;
     let mut verdict = Verdict {
         numbers: outputs.iter().map(|output| output.len() as u64).sum(),
         wrong: fault(Call::Viterbi, case, &answer, &lent, &outputs),

@@ -6,6 +6,7 @@
 //! has, and how an altered case is marked.
 
 use crate::case::Case;
+use crate::engine::Given;
 use crate::lent::{Call, Output};
 use crate::model_file::{Left, Lent};
 use reference::{Answer, Shape};
@@ -23,7 +24,7 @@ pub const MOST_WORDS: usize = 8192;
 pub const ALTERED: u64 = 64;
 
 /// The calls of the list, by number.
-pub const NAMES: [&str; 21] = [
+pub const NAMES: [&str; 22] = [
     "viterbi",
     "forward",
     "backward",
@@ -45,6 +46,7 @@ pub const NAMES: [&str; 21] = [
     "read_model",
     "write_model",
     "file_length",
+    "rival",
 ];
 
 /// One case of the list.
@@ -57,17 +59,26 @@ pub struct Frozen {
 }
 
 impl Frozen {
-    /// A call on a model: the shape, the four tables, the samples if it takes any, then each output as it is left.
-    pub fn of_model(call: Call, case: &Case, answer: &Answer, after: &[Output]) -> Frozen {
+    /// A call on a model: the shape, the four tables, the samples and the index if it takes any, then what is beside the
+    /// answer, if anything is, and each output as it is left.
+    pub fn of_model(call: Call, case: &Case, given: &Given, after: &[Output]) -> Frozen {
         let mut lists = vec![shape_words(case.shape)];
         lists.extend(case.model().tables().iter().map(|table| bits(table)));
         if call.takes_samples() {
             lists.push(case.samples.iter().map(|sample| u64::from(*sample)).collect());
         }
+        if call.takes_index() {
+            lists.push(vec![case.index as u64]);
+        }
+        lists.extend(
+            given
+                .beside
+                .map(|beside| vec![beside.chosen as u64, beside.best.to_bits()]),
+        );
         lists.extend(after.iter().map(Output::bits));
         Frozen {
             call: number_of(call.name()),
-            answer: answer_words(answer),
+            answer: answer_words(&given.answer),
             lists,
         }
     }
@@ -133,6 +144,7 @@ impl Frozen {
         match NAMES[self.call as usize] {
             "viterbi" | "forward" | "backward" | "baum_welch" => 6,
             "write_model" => 5,
+            "rival" => 7,
             _ => 1,
         }
     }
@@ -218,6 +230,7 @@ fn case_of(words: &[u64]) -> Frozen {
 mod tests {
     use super::*;
     use crate::engine::REFERENCE;
+    use reference::Rivalry;
 
     #[test]
     fn reading_gives_what_was_written() {
@@ -245,9 +258,9 @@ mod tests {
         assert_eq!(altered(&sums), 1 + 2 * (4 + 2));
     }
 
-    #[test]
-    fn calls_on_model_files_have_their_lists() {
-        let case = Case {
+    /// One state and two symbols, on one sample.
+    fn one_state() -> Case {
+        Case {
             shape: Shape {
                 states: 1,
                 symbols: 2,
@@ -258,14 +271,23 @@ mod tests {
             initial: vec![-4.0],
             end: vec![-5.0],
             samples: vec![1],
-        };
+            index: 0,
+        }
+    }
+
+    fn lengths(frozen: &Frozen) -> Vec<usize> {
+        frozen.lists.iter().map(Vec::len).collect()
+    }
+
+    #[test]
+    fn calls_on_model_files_have_their_lists() {
+        let case = one_state();
         let lent = Lent::of(&case, [1; 4]);
         let reading = Frozen::of_reading(&lent, &lent.read_by(&REFERENCE));
-        let lengths = |frozen: &Frozen| -> Vec<usize> { frozen.lists.iter().map(Vec::len).collect() };
         assert_eq!((reading.call, lengths(&reading)), (18, vec![112, 3, 2, 3, 2, 2]));
         assert_eq!(altered(&reading), 1 + 2 * (4 + 2 * 5));
         let file = [Output::Bytes(lent.file)];
-        let writing = Frozen::of_model(Call::WriteModel, &case, &Answer::done(0.0), &file);
+        let writing = Frozen::of_model(Call::WriteModel, &case, &Answer::done(0.0).into(), &file);
         assert_eq!((writing.call, lengths(&writing)), (19, vec![3, 1, 2, 1, 1, 112]));
         assert_eq!(altered(&writing), 1 + 2 * (4 + 2));
         let length = Frozen::of_length(case.shape, 112);
@@ -273,5 +295,23 @@ mod tests {
         assert_eq!((altered(&length), length.answer[3]), (9, 112.0_f64.to_bits()));
         let cases = vec![reading, writing, length];
         assert_eq!(read(&write(&cases)), cases);
+    }
+
+    #[test]
+    fn a_rival_has_an_index_and_what_is_beside_its_answer() {
+        let case = one_state().at(7);
+        let path = || Output::Bytes(vec![0; 2]);
+        let outputs = [path(), path(), Output::Numbers(vec![-0.5; 2]), path()];
+        let (answer, chosen, best) = (Answer::done(-2.0), 3, -1.0);
+        let given = Rivalry { answer, chosen, best }.into();
+        let rival = Frozen::of_model(Call::Rival, &case, &given, &outputs);
+        assert_eq!(
+            (rival.call, lengths(&rival)),
+            (21, vec![3, 1, 2, 1, 1, 1, 1, 2, 2, 2, 2, 2])
+        );
+        assert_eq!(rival.lists[6..8], [vec![7], vec![3, (-1.0_f64).to_bits()]]);
+        assert_eq!(rival.answer[3], (-2.0_f64).to_bits());
+        assert_eq!(altered(&rival), 1 + 2 * (4 + 2 * 5));
+        assert_eq!(read(&write(std::slice::from_ref(&rival))), [rival]);
     }
 }

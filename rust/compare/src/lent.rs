@@ -13,9 +13,10 @@ pub enum Call {
     Backward,
     BaumWelch,
     WriteModel,
+    Rival,
 }
 
-/// The calls on a model and its samples.
+/// The calls on a model and its samples alone; `rival` is lent an index with them.
 pub const CALLS: [Call; 4] = [Call::Viterbi, Call::Forward, Call::Backward, Call::BaumWelch];
 
 impl Call {
@@ -26,6 +27,7 @@ impl Call {
             Call::Backward => "backward",
             Call::BaumWelch => "baum_welch",
             Call::WriteModel => "write_model",
+            Call::Rival => "rival",
         }
     }
 
@@ -39,6 +41,11 @@ impl Call {
         self != Call::WriteModel
     }
 
+    /// Whether the call is lent an index.
+    pub fn takes_index(self) -> bool {
+        self == Call::Rival
+    }
+
     /// The length that each output needs, in argument order.
     pub fn needed(self, case: &Case) -> Vec<usize> {
         let (states, symbols) = (case.shape.states, case.shape.symbols);
@@ -48,6 +55,7 @@ impl Call {
             Call::Forward | Call::Backward => vec![cells],
             Call::BaumWelch => vec![states * states, states * symbols, states, states, cells, cells],
             Call::WriteModel => vec![reference::file_length(case.shape)],
+            Call::Rival => vec![case.samples.len(), case.samples.len(), cells, cells],
         }
     }
 
@@ -56,6 +64,7 @@ impl Call {
         match self {
             Call::Viterbi => place != 1,
             Call::WriteModel => true,
+            Call::Rival => place != 2,
             _ => false,
         }
     }
@@ -121,7 +130,7 @@ pub fn lend(call: Call, case: &Case, random: &mut Random) -> Vec<Output> {
         .collect()
 }
 
-/// What is wrong with the memory after a call, by RULES 3.4: 1 to 8 leave all of it alone; 9
+/// What is wrong with the memory after a call, by RULES 3.4: 1 to 8, 15 and 16 leave all of it alone; 9
 /// leaves the outputs alone; done and 9 leave surplus alone and the needed scratch at +0.0.
 pub fn fault(call: Call, case: &Case, answer: &Answer, before: &[Output], after: &[Output]) -> Option<String> {
     let needed = if answer.refusal == DONE || answer.refusal == ZERO_MASS {

@@ -12,6 +12,7 @@ pub mod lent;
 pub mod likeness;
 pub mod model_file;
 pub mod random;
+pub mod rival;
 pub mod shrink;
 pub mod tally;
 pub mod verdict;

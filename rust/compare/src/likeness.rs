@@ -4,7 +4,7 @@ mod end_state;
 
 use crate::case::Case;
 use crate::damage::Named;
-use crate::engine::{Engine, REFERENCE};
+use crate::engine::{Engine, Given, REFERENCE};
 use crate::lent::{fault, lend, Call, Output};
 use crate::random::Random;
 use crate::verdict::{Intended, Verdict};
@@ -12,34 +12,39 @@ use oracle::{caught, Bio, Trained, Walks};
 use reference::answer::{DONE, FIRST_OUTPUT, NO_SAMPLES, ZERO_MASS};
 use reference::Answer;
 
-/// The reference's answer to a call, with outputs of just their length.
-struct Ours {
-    answer: Answer,
-    outputs: Vec<Output>,
+/// What the reference or somebody else gives to a call, with outputs of just their length.
+pub struct Ours {
+    pub given: Given,
+    pub outputs: Vec<Output>,
 }
 
 fn ours(call: Call, case: &Case) -> Ours {
     ours_by(&REFERENCE, call, case)
 }
 
-fn ours_by(engine: &Engine, call: Call, case: &Case) -> Ours {
+/// The same of somebody else.
+pub fn ours_by(engine: &Engine, call: Call, case: &Case) -> Ours {
     let mut outputs = lend(call, case, &mut Random::new(0));
     for (output, needed) in outputs.iter_mut().zip(call.needed(case)) {
         output.truncate(needed);
     }
-    let answer = (engine.call)(call, case, &mut outputs);
-    Ours { answer, outputs }
+    let given = (engine.call)(call, case, &mut outputs);
+    Ours { given, outputs }
 }
 
 impl Ours {
-    fn numbers(&self, place: usize) -> &[f64] {
+    fn answer(&self) -> &Answer {
+        &self.given.answer
+    }
+
+    pub fn numbers(&self, place: usize) -> &[f64] {
         match &self.outputs[place] {
             Output::Numbers(numbers) => numbers,
             Output::Bytes(_) => unreachable!("this output has numbers"),
         }
     }
 
-    fn bytes(&self, place: usize) -> &[u8] {
+    pub fn bytes(&self, place: usize) -> &[u8] {
         match &self.outputs[place] {
             Output::Bytes(bytes) => bytes,
             Output::Numbers(_) => unreachable!("this output has bytes"),
@@ -58,37 +63,41 @@ pub fn viterbi(bio: &Bio, case: &Case) -> Verdict {
 }
 
 fn viterbi_by(engine: &Engine, bio: &Bio, case: &Case) -> Verdict {
-    let ours = ours_by(engine, Call::Viterbi, case);
+    best_path(&ours_by(engine, Call::Viterbi, case), bio, case)
+}
+
+/// Path, values and predecessors against bio's on a case.
+pub fn best_path(ours: &Ours, bio: &Bio, case: &Case) -> Verdict {
     let walks = bio_model(bio, case);
     let samples = case.wide_samples();
     let (values, from) = walks.viterbi_tables(&samples);
     let theirs = walks.viterbi(&samples);
     let mut verdict = Verdict::default();
-    verdict.whole("refusal", u64::from(ours.answer.refusal), u64::from(DONE));
+    verdict.whole("refusal", u64::from(ours.answer().refusal), u64::from(DONE));
     verdict.table("values", ours.numbers(1), &values);
     verdict.bytes("from", ours.bytes(2), &from);
     if case.shape.ends {
         let closed = end_state::from_tables(case, &values, &from);
-        decoded(&mut verdict, "bio's tables and the end table", &ours, &closed);
-        note_the_way_out(&mut verdict, &ours, &theirs);
+        decoded(&mut verdict, "bio's tables and the end table", ours, &closed);
+        note_the_way_out(&mut verdict, ours, &theirs);
     } else {
-        decoded(&mut verdict, "bio's model", &ours, &theirs);
+        decoded(&mut verdict, "bio's model", ours, &theirs);
         let walks = (bio.model_without_end)(&case.model()).expect("the dimensions of a case are consistent");
         let theirs = walks.viterbi(&samples);
-        decoded(&mut verdict, "bio's model without an end state", &ours, &theirs);
+        decoded(&mut verdict, "bio's model without an end state", ours, &theirs);
     }
     verdict
 }
 
 /// Compares path and value with those of something, bit for bit.
 fn decoded(verdict: &mut Verdict, of: &str, ours: &Ours, (path, value): &(Vec<u8>, f64)) {
-    verdict.number(&format!("value of {of}"), ours.answer.value, *value);
+    verdict.number(&format!("value of {of}"), ours.answer().value, *value);
     verdict.bytes(&format!("path of {of}"), ours.bytes(0), path);
 }
 
 /// Notes what the end table changes: the value, and the last state.
 fn note_the_way_out(verdict: &mut Verdict, ours: &Ours, (path, value): &(Vec<u8>, f64)) {
-    if ours.answer.value.to_bits() != value.to_bits() {
+    if ours.answer().value.to_bits() != value.to_bits() {
         verdict.note(Intended::EndEntry);
     }
     if ours.bytes(0).last() != path.last() {
@@ -103,15 +112,30 @@ pub fn viterbi_to_the_end(bio: &Bio, case: &Case) -> Verdict {
 }
 
 fn viterbi_to_the_end_by(engine: &Engine, bio: &Bio, case: &Case) -> Verdict {
-    let ours = ours_by(engine, Call::Viterbi, case);
+    best_path_to_the_end(&ours_by(engine, Call::Viterbi, case), bio, case)
+}
+
+/// Path and value against those of bio's walk to the end state as a state.
+pub fn best_path_to_the_end(ours: &Ours, bio: &Bio, case: &Case) -> Verdict {
     let longer = end_state::as_a_state(case);
     let (path, value) = bio_model(bio, &longer).viterbi(&longer.wide_samples());
     let mut verdict = Verdict::default();
-    verdict.number("value", ours.answer.value, value);
+    verdict.number("value", ours.answer().value, value);
     if value > f64::NEG_INFINITY {
         verdict.bytes("path", ours.bytes(0), &path[..case.samples.len()]);
     }
     verdict
+}
+
+/// bio's best path of a case, and its value; with an end state they follow from bio's tables.
+pub fn best_of_bio(bio: &Bio, case: &Case) -> (Vec<u8>, f64) {
+    let walks = bio_model(bio, case);
+    let samples = case.wide_samples();
+    if !case.shape.ends {
+        return walks.viterbi(&samples);
+    }
+    let (values, from) = walks.viterbi_tables(&samples);
+    end_state::from_tables(case, &values, &from)
 }
 
 /// Forward: value and table, bit for bit.
@@ -133,12 +157,12 @@ fn table_and_value(call: Call, bio: &Bio, case: &Case) -> Verdict {
         _ => walks.backward(&samples),
     });
     match theirs {
-        None if ours.answer.refusal == NO_SAMPLES => Verdict::only(Intended::NoSamples),
+        None if ours.answer().refusal == NO_SAMPLES => Verdict::only(Intended::NoSamples),
         None => Verdict::wrong("bio panics".to_string()),
         Some((values, value)) => {
             let mut verdict = Verdict::default();
-            verdict.whole("refusal", u64::from(ours.answer.refusal), u64::from(DONE));
-            verdict.number("value", ours.answer.value, value);
+            verdict.whole("refusal", u64::from(ours.answer().refusal), u64::from(DONE));
+            verdict.number("value", ours.answer().value, value);
             verdict.table("values", ours.numbers(0), &values);
             verdict
         }
@@ -151,15 +175,15 @@ pub fn pass(bio: &Bio, case: &Case) -> Verdict {
     let walks = bio_model(bio, case);
     let samples = case.wide_samples();
     let theirs = caught(|| walks.baum_welch(&samples));
-    match (ours.answer.refusal, theirs) {
+    match (ours.answer().refusal, theirs) {
         (NO_SAMPLES, None) => Verdict::only(Intended::NoSamples),
         (ZERO_MASS, None) => Verdict::only(Intended::ZeroMassPanics),
-        (ZERO_MASS, Some(theirs)) => zero_mass(case, ours.answer.place, &theirs),
+        (ZERO_MASS, Some(theirs)) => zero_mass(case, ours.answer().place, &theirs),
         (DONE, Some(theirs)) => {
             let mut verdict = trained(case, &ours, &theirs);
             let (alpha, _) = walks.forward(&samples);
             let (beta, _) = walks.backward(&samples);
-            verdict.number("probx", ours.answer.value, probx(bio, case, &alpha, &beta));
+            verdict.number("probx", ours.answer().value, probx(bio, case, &alpha, &beta));
             verdict
         }
         (refusal, theirs) => Verdict::wrong(format!(
@@ -235,7 +259,7 @@ fn all_columns(case: &Case, emission: &[f64]) -> Vec<f64> {
 
 /// The distance of forward's value from bio's, 0 where they are equal.
 pub fn forward_distance(bio: &Bio, case: &Case) -> f64 {
-    let ours = ours(Call::Forward, case).answer.value;
+    let ours = ours(Call::Forward, case).answer().value;
     let (_, theirs) = bio_model(bio, case).forward(&case.wide_samples());
     if ours == theirs {
         return 0.0;
@@ -247,9 +271,9 @@ pub fn forward_distance(bio: &Bio, case: &Case) -> f64 {
 pub fn library(library: &Engine, call: Call, case: &Case, lent: Vec<Output>) -> Verdict {
     let (mut ours, mut theirs) = (lent.clone(), lent);
     let expected = (REFERENCE.call)(call, case, &mut ours);
-    let answer = (library.call)(call, case, &mut theirs);
+    let given = (library.call)(call, case, &mut theirs);
     let mut verdict = Verdict::default();
-    verdict.answer(&expected, &answer);
+    verdict.given(&expected, &given);
     for (number, (ours, theirs)) in (FIRST_OUTPUT..).zip(ours.iter().zip(&theirs)) {
         verdict.output(number, ours, theirs);
     }
@@ -258,8 +282,14 @@ pub fn library(library: &Engine, call: Call, case: &Case, lent: Vec<Output>) -> 
 
 /// The reference against RULES 3.4 on lent memory, and, after damage, against the answer that it must lead to.
 pub fn memory(call: Call, case: &Case, expected: Option<Named>, lent: Vec<Output>) -> Verdict {
+    memory_by(&REFERENCE, call, case, expected, lent)
+}
+
+/// The same of somebody else.
+pub fn memory_by(engine: &Engine, call: Call, case: &Case, expected: Option<Named>, lent: Vec<Output>) -> Verdict {
     let mut outputs = lent.clone();
-    let answer = (REFERENCE.call)(call, case, &mut outputs);
+    let given = (engine.call)(call, case, &mut outputs);
+    let answer = given.answer;
     let mut verdict = Verdict {
         numbers: outputs.iter().map(|output| output.len() as u64).sum(),
         wrong: fault(call, case, &answer, &lent, &outputs),
@@ -267,7 +297,8 @@ pub fn memory(call: Call, case: &Case, expected: Option<Named>, lent: Vec<Output
         ..Verdict::default()
     };
     if let Some((refusal, table, place)) = expected {
-        verdict.answer(&answer, &Answer::refused(refusal, table, place));
+        let refused = Given::refused(call, Answer::refused(refusal, table, place));
+        verdict.given(&given, &refused);
     }
     verdict
 }

@@ -21,6 +21,8 @@ const DEFAULT: Amount = Amount {
     leaves: 100_000,
     entries: 10,
     files: 8_192,
+    rivals: 5_120,
+    few_paths: 4_096,
 };
 
 const LONG: Amount = Amount {
@@ -37,6 +39,8 @@ const LONG: Amount = Amount {
     leaves: 1_000_000,
     entries: 100,
     files: 65_536,
+    rivals: 51_200,
+    few_paths: 65_536,
 };
 
 fn main() -> ExitCode {

@@ -84,6 +84,7 @@ impl Left {
             initial: front(2),
             end: front(3),
             samples: Vec::new(),
+            index: 0,
         })
     }
 }
@@ -166,7 +167,7 @@ fn written_is(engine: &Engine, case: &Case, file: &[u8]) -> Verdict {
 fn written(engine: &Engine, case: &Case) -> (Answer, Vec<u8>) {
     let length = rule::length(case.shape) + SURPLUS;
     let mut outputs = [Output::Bytes(vec![FILL; length])];
-    let answer = (engine.call)(Call::WriteModel, case, &mut outputs);
+    let answer = (engine.call)(Call::WriteModel, case, &mut outputs).answer;
     let [Output::Bytes(bytes)] = outputs else {
         unreachable!("a file is bytes");
     };

@@ -40,9 +40,14 @@ fn pieces(length: usize) -> impl Iterator<Item = (usize, usize)> {
     })
 }
 
+/// The index stays at its sample; where that is dropped, it goes to the first one after the run.
 fn without_samples(case: &Case, start: usize, end: usize) -> Case {
     let mut smaller = case.clone();
     smaller.samples.drain(start..end);
+    smaller.index = match case.index < end {
+        true => case.index.min(start),
+        false => case.index - (end - start),
+    };
     smaller
 }
 
@@ -69,6 +74,7 @@ fn without_state(case: &Case, state: usize) -> Case {
         initial: row_kept(&case.initial, 1),
         end: row_kept(&case.end, 1),
         samples: case.samples.clone(),
+        index: case.index,
     }
 }
 

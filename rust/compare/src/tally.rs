@@ -4,7 +4,7 @@ use crate::verdict::{Intended, Verdict};
 use std::collections::BTreeMap;
 
 /// The refusal numbers that a call on a model or on its file may answer, 0 for done.
-const ANSWERS: [usize; 12] = [0, 1, 2, 3, 4, 5, 6, 7, 8, 9, 13, 14];
+const ANSWERS: [usize; 14] = [0, 1, 2, 3, 4, 5, 6, 7, 8, 9, 13, 14, 15, 16];
 
 #[derive(Default)]
 struct Row {
@@ -19,7 +19,7 @@ pub struct Tally {
     names: Vec<String>,
     rows: BTreeMap<String, Row>,
     intended: BTreeMap<Intended, u64>,
-    refusals: BTreeMap<&'static str, [u64; 15]>,
+    refusals: BTreeMap<&'static str, [u64; 17]>,
 }
 
 impl Tally {

@@ -1,5 +1,6 @@
 //! What one comparison found.
 
+use crate::engine::Given;
 use crate::lent::Output;
 use reference::{Answer, Shape};
 
@@ -104,6 +105,19 @@ impl Verdict {
         self.whole("table", u64::from(ours.table), u64::from(theirs.table));
         self.whole("place", ours.place as u64, theirs.place as u64);
         self.number("value", ours.value, theirs.value);
+    }
+
+    /// Compares what two calls give: the answers, and what is beside them.
+    pub fn given(&mut self, ours: &Given, theirs: &Given) {
+        self.answer(&ours.answer, &theirs.answer);
+        match (ours.beside, theirs.beside) {
+            (None, None) => {}
+            (Some(ours), Some(theirs)) => {
+                self.whole("chosen", ours.chosen as u64, theirs.chosen as u64);
+                self.number("best", ours.best, theirs.best);
+            }
+            _ => unreachable!("both made the same call"),
+        }
     }
 
     /// Compares two shapes.

@@ -21,6 +21,7 @@ fn zeros(states: usize, symbols: usize, ends: bool, samples: &[u16]) -> Case {
         initial: vec![0.0; states],
         end: vec![0.0; states],
         samples: samples.to_vec(),
+        index: 0,
     }
 }
 

@@ -98,6 +98,7 @@ macro_rules! mode {
 
             const LEAVES: Leaves = Leaves {
                 fastexp: |x| x.fastexp(),
+                add: |a, b| *(LogProb(a) + LogProb(b)),
                 is_valid: |p| LogProb(p).is_valid(),
                 checked: |p| Prob::checked(p).ok().map(|p| *p),
                 cap_numerical_overshoot: |p, epsilon| *LogProb(p).cap_numerical_overshoot(epsilon),

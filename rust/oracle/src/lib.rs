@@ -58,6 +58,7 @@ pub struct Trained {
 #[derive(Clone, Copy)]
 pub struct Leaves {
     pub fastexp: fn(f64) -> f64,
+    pub add: fn(f64, f64) -> f64,
     pub is_valid: fn(f64) -> bool,
     pub checked: fn(f64) -> Option<f64>,
     pub cap_numerical_overshoot: fn(f64, f64) -> f64,

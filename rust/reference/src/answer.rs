@@ -15,6 +15,8 @@ pub const NEGATIVE_DIFFERENCE: u8 = 10;
 pub const OVERSHOOT: u8 = 11;
 pub const BAD_LAYOUT: u8 = 13;
 pub const BAD_SUM: u8 = 14;
+pub const NO_RIVAL: u8 = 15;
+pub const BAD_INDEX: u8 = 16;
 
 /// The numbers of what is lent; what else a call is lent is numbered from 5 in the order of the arguments.
 pub const TRANSITION: u8 = 0;

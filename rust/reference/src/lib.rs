@@ -11,6 +11,7 @@ pub mod leaves;
 pub mod likelihood;
 pub mod model;
 pub mod model_file;
+pub mod rival;
 pub mod sums;
 pub mod viterbi;
 
@@ -19,4 +20,5 @@ pub use baum_welch::{baum_welch, Estimates};
 pub use likelihood::{backward, forward};
 pub use model::{Model, Shape};
 pub use model_file::{file_length, read_model, write_model, Reading, Tables};
+pub use rival::{rival, Rivalry};
 pub use viterbi::viterbi;

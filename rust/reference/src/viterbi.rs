@@ -37,15 +37,27 @@ pub fn viterbi_unchecked(
     values: &mut [f64],
     from: &mut [u8],
 ) -> Answer {
-    let Some((first, later)) = samples.split_first() else {
+    let Some(first) = samples.first() else {
         return Answer::done(f64::NEG_INFINITY);
     };
-    let states = model.shape.states;
-    for j in 0..states {
+    for j in 0..model.shape.states {
         values[j] = model.initial[j] + model.emission(j, *first);
         from[j] = j as u8;
     }
-    for (t, sample) in (1..).zip(later) {
+    walk_on(model, samples, 1, path, values, from)
+}
+
+/// The rows of this sample and of all later ones, over those before it, which are there; then the path and its value.
+pub fn walk_on(
+    model: &Model,
+    samples: &[u16],
+    start: usize,
+    path: &mut [u8],
+    values: &mut [f64],
+    from: &mut [u8],
+) -> Answer {
+    let states = model.shape.states;
+    for (t, sample) in samples.iter().enumerate().skip(start) {
         let (before, rest) = values.split_at_mut(t * states);
         let previous = &before[(t - 1) * states..];
         let row = &mut rest[..states];

@@ -22,6 +22,18 @@ pub struct Answer {
     pub value: f64,
 }
 
+/// What [`rival`](crate::raw::rival) gives.
+#[repr(C)]
+#[derive(Clone, Copy, Debug)]
+pub struct Rivalry {
+    /// The answer. Its value is the rival's score where there is a rival.
+    pub answer: Answer,
+    /// The state of the best path at the index; 0 on a refusal.
+    pub chosen: usize,
+    /// The best path's value; minus infinity on a refusal.
+    pub best: f64,
+}
+
 /// What the reader of a model file gives: the answer, and the file's shape beside it.
 #[repr(C)]
 #[derive(Clone, Copy)]
@@ -43,6 +55,20 @@ extern "C" {
         values: *mut f64, values_length: usize,
         from: *mut u8, from_length: usize,
     ) -> Answer;
+
+    pub fn wasnugram_rival(
+        shape: Shape,
+        transition: *const f64, transition_length: usize,
+        emission: *const f64, emission_length: usize,
+        initial: *const f64, initial_length: usize,
+        end: *const f64, end_length: usize,
+        samples: *const u16, samples_length: usize,
+        index: usize,
+        path: *mut u8, path_length: usize,
+        rival_path: *mut u8, rival_path_length: usize,
+        values: *mut f64, values_length: usize,
+        from: *mut u8, from_length: usize,
+    ) -> Rivalry;
 
     pub fn wasnugram_forward(
         shape: Shape,

@@ -33,6 +33,9 @@
 //! }
 //! ```
 //!
+//! [`rival`] says why the path has the state that it has at a sample: which path with another state there is the best, and
+//! how far it is behind.
+//!
 //! A model is stored as a file in which no single flipped bit passes: [`write_model`] writes it, [`read_model`] reads it
 //! into lent tables. Of damage to the tables after that, a call refuses an entry that is NaN or above zero, no other.
 //!
@@ -53,6 +56,7 @@ mod model_file;
 mod owned;
 pub mod raw;
 mod refusal;
+mod rival;
 mod walks;
 
 pub use leaves::{
@@ -63,4 +67,5 @@ pub use model_file::{read_model, write_model};
 #[cfg(feature = "alloc")]
 pub use owned::{model_file, OwnedModel};
 pub use refusal::{Refusal, Refused, Table};
+pub use rival::{margins, rival, Rival};
 pub use walks::{backward, baum_welch, forward, is_possible, viterbi, Decoded};

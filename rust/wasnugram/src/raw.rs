@@ -14,6 +14,9 @@
 //! let (mut path, mut values, mut from) = ([0; 3], [0.0; 6], [0; 6]);
 //! let done = raw::viterbi(&model, &[0, 1, 1], &mut path, &mut values, &mut from);
 //! assert_eq!((done.refusal, done.table, done.place, done.value), (0, 0, 0, -7.0));
+//! let mut rival_path = [0; 3];
+//! let rivalry = raw::rival(&model, &[0, 1, 1], 1, &mut path, &mut rival_path, &mut values, &mut from);
+//! assert_eq!((rivalry.answer.refusal, rivalry.answer.value, rivalry.chosen, rivalry.best), (0, -9.0, 1, -7.0));
 //! let refused = raw::forward(&model, &[], &mut values);
 //! assert_eq!((refused.refusal, refused.table, refused.place, refused.value), (4, 4, 0, f64::NEG_INFINITY));
 //!
@@ -34,7 +37,7 @@
 use crate::interface as c;
 use crate::{Estimates, Model, Shape, Tables};
 
-pub use c::Answer;
+pub use c::{Answer, Rivalry};
 
 /// What [`read_model`] gives.
 #[derive(Clone, Copy, Debug)]
@@ -65,12 +68,12 @@ impl From<c::Shape> for Shape {
     }
 }
 
-/// Calls a function of the library with the model and the samples, if it takes any, then each output as a pointer and a
-/// length.
+/// Calls a function of the library with the model, the samples and the index, if it takes them, then each output as a
+/// pointer and a length.
 /// Safe: every pointer comes from a slice with its length, and Rust's borrows keep the written ones apart from all
 /// others for the time of the call.
 macro_rules! call {
-    ($function:ident, $model:expr $(, $samples:expr)?; $($output:expr),*) => {{
+    ($function:ident, $model:expr $(, $samples:expr $(, $index:expr)?)?; $($output:expr),*) => {{
         let model = $model;
         unsafe {
             c::$function(
@@ -83,7 +86,7 @@ macro_rules! call {
                 model.initial.len(),
                 model.end.as_ptr(),
                 model.end.len(),
-                $($samples.as_ptr(), $samples.len(),)?
+                $($samples.as_ptr(), $samples.len(), $($index,)?)?
                 $($output.as_mut_ptr(), $output.len()),*
             )
         }
@@ -93,6 +96,19 @@ macro_rules! call {
 /// As [`viterbi`](crate::viterbi) of this crate.
 pub fn viterbi(model: &Model, samples: &[u16], path: &mut [u8], values: &mut [f64], from: &mut [u8]) -> Answer {
     call!(wasnugram_viterbi, model, samples; path, values, from)
+}
+
+/// As [`rival`](crate::rival) of this crate.
+pub fn rival(
+    model: &Model,
+    samples: &[u16],
+    index: usize,
+    path: &mut [u8],
+    rival_path: &mut [u8],
+    values: &mut [f64],
+    from: &mut [u8],
+) -> Rivalry {
+    call!(wasnugram_rival, model, samples, index; path, rival_path, values, from)
 }
 
 /// As [`forward`](crate::forward) of this crate.

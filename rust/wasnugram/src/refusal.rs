@@ -35,6 +35,10 @@ pub enum Refusal {
     BadLayout = 13,
     /// A sum in a model file is not that of its table.
     BadSum = 14,
+    /// Every path with another state at the index is impossible.
+    NoRival = 15,
+    /// There is no sample at the index.
+    BadIndex = 16,
 }
 
 impl Refusal {
@@ -70,6 +74,8 @@ impl Refusal {
             11 => Refusal::Overshoot,
             13 => Refusal::BadLayout,
             14 => Refusal::BadSum,
+            15 => Refusal::NoRival,
+            16 => Refusal::BadIndex,
             _ => return None,
         })
     }
@@ -146,8 +152,8 @@ impl fmt::Display for Table {
 ///
 /// The place is the first index that is at fault, or the length where lengths are (5 and 6), or the number of states,
 /// symbols or samples (1, 2 and 3), or the state without mass, S for the whole (9), or the first wrong byte of a model
-/// file, the shorter length where bytes are missing or left over (13), or 0 (14); in a sum or a kernel it is the
-/// argument's number from 0, or the index in the slice.
+/// file, the shorter length where bytes are missing or left over (13), or 0 (14, 15 and 16); in a sum or a kernel it is
+/// the argument's number from 0, or the index in the slice.
 ///
 /// ```
 /// use wasnugram::{Refusal, Refused, Table};
@@ -161,19 +167,21 @@ impl fmt::Display for Table {
 pub struct Refused {
     /// The cause.
     pub refusal: Refusal,
-    /// What was lent and is at fault, or which table of a model file is; none for a number, a state, an argument or the
-    /// file's layout.
+    /// What was lent and is at fault, or which table of a model file is; none for a number, a state, an argument, the
+    /// file's layout, or where a rival was asked for in vain.
     pub table: Option<Table>,
     /// Where.
     pub place: usize,
 }
 
 impl Refused {
-    /// A call on a model or a file names a table in every refusal but those of sizes, of mass and of the file's layout.
+    /// A call on a model or a file names a table in every refusal but those of sizes, of mass, of the file's layout and of
+    /// a rival.
     pub(crate) fn of_model(answer: Answer) -> Refused {
         let refused = Refused::of_leaf(answer);
         match refused.refusal {
             Refusal::BadStates | Refusal::BadSymbols | Refusal::ZeroMass | Refusal::BadLayout => refused,
+            Refusal::NoRival | Refusal::BadIndex => refused,
             _ => Refused {
                 table: Some(Table::from_number(answer.table)),
                 ..refused
@@ -208,6 +216,8 @@ impl Refused {
             (Refusal::Overshoot, _) => write!(f, "a value too far above zero, or NaN"),
             (Refusal::BadLayout, _) => write!(f, "the model file is wrong from byte {place} on, or ends there"),
             (Refusal::BadSum, Some(table)) => write!(f, "the sum of {table} in the model file is wrong"),
+            (Refusal::NoRival, _) => write!(f, "every path with another state at the index is impossible"),
+            (Refusal::BadIndex, _) => write!(f, "there is no sample at the index"),
             (_, None) => write!(f, "place {place} of the arguments is NaN or outside its domain"),
         }
     }

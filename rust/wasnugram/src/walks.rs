@@ -3,7 +3,7 @@
 use crate::raw::{self, Answer};
 use crate::{Estimates, Model, Refused};
 
-fn result(answer: Answer) -> Result<f64, Refused> {
+pub(crate) fn result(answer: Answer) -> Result<f64, Refused> {
     match answer.refusal {
         0 => Ok(answer.value),
         _ => Err(Refused::of_model(answer)),

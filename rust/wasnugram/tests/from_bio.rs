@@ -31,7 +31,7 @@ fn with_model(test: impl FnOnce(Model) -> Result<(), Refused>) -> Result<(), Ref
 
 #[test]
 #[rustfmt::skip]
-fn best_path_and_refusal() -> Result<(), Refused> {
+fn best_path_rival_and_refusal() -> Result<(), Refused> {
     with_model(|model| {
         let samples = [2, 2, 1, 0, 1, 3, 2, 0, 0];
         let cells = model.shape.cells(samples.len());
@@ -46,6 +46,13 @@ fn best_path_and_refusal() -> Result<(), Refused> {
         assert_eq!(decoded.path, [0, 0, 0, 1, 1, 1, 1, 1, 1]);
         assert!((prob - 4.25e-8).abs() < 1e-9);
         assert!((per_sample.powi(9) - prob).abs() < 1e-12);
+
+        let mut rival_path = vec![0; samples.len()];
+        let found = rival(&model, &samples, 3, &mut path, &mut rival_path, &mut values, &mut from)?;
+        assert_eq!(found.rival_path, [0, 0, 0, 0, 0, 1, 1, 1, 1]);
+        let times_as_likely = found.margin().exp();
+        assert!(near(times_as_likely, 1.44));
+        assert_eq!((found.path, found.best), (&[0, 0, 0, 1, 1, 1, 1, 1, 1][..], log_prob));
 
         let emission = model.emission;
         let mut flipped = emission.to_vec();
@@ -228,7 +235,7 @@ fn every_block_of_the_page_is_in_this_file() {
         .skip(1)
         .map(|rest| rest.split("```").next().unwrap())
         .collect();
-    assert_eq!(blocks.len(), 12);
+    assert_eq!(blocks.len(), 13);
     for block in blocks {
         assert!(here.contains(&bare(block)), "not compiled here:\n{block}");
     }

@@ -19,6 +19,20 @@ fn decode(model: Model, samples: &[u16]) -> Result<f64, Refused> {
     viterbi(&model, samples, &mut [0; 3], &mut [0.0; 6], &mut [0; 6]).map(|decoded| decoded.value)
 }
 
+fn rival_at(model: Model, index: usize) -> Result<f64, Refused> {
+    let (mut path, mut rival_path) = ([0; 3], [0; 3]);
+    let found = rival(
+        &model,
+        &[0, 1, 1],
+        index,
+        &mut path,
+        &mut rival_path,
+        &mut [0.0; 6],
+        &mut [0; 6],
+    );
+    found.map(|found| found.value)
+}
+
 fn train(model: Model, samples: &[u16]) -> Result<f64, Refused> {
     let mut new = Estimates {
         new_transition: &mut [0.0; 4],
@@ -110,6 +124,20 @@ fn walks_say_what_is_wrong() {
             train(GOOD, &[1]),
             "refusal 9 (ZeroMass): no mass at place 0: a state, or their number for the whole",
         ),
+        (
+            rival_at(
+                Model {
+                    initial: &[MINUS; 2],
+                    ..GOOD
+                },
+                2,
+            ),
+            "refusal 15 (NoRival): every path with another state at the index is impossible",
+        ),
+        (
+            rival_at(GOOD, 3),
+            "refusal 16 (BadIndex): there is no sample at the index",
+        ),
     ];
     for (answer, words) in refused {
         assert_eq!(answer.unwrap_err().to_string(), words);
@@ -196,7 +224,7 @@ fn a_refusal_is_an_error_of_its_own() {
 #[test]
 fn numbers_and_refusals_are_one_to_one() {
     for number in 0..=u8::MAX {
-        let known = matches!(number, 1..=11 | 13 | 14);
+        let known = matches!(number, 1..=11 | 13..=16);
         assert_eq!(
             Refusal::from_number(number).map(Refusal::number),
             known.then_some(number)

@@ -1,7 +1,7 @@
 //! `freeze FILE`: writes the frozen list (FROZEN.md), after holding each of its answers that bio can give against bio's,
-//! and those on model files against the rule on bytes.
+//! those on model files against the rule on bytes, and rivals against all paths too.
 
-use compare::case::{self, Case, Kind, Sizes};
+use compare::case::{self, Case, Sizes, KINDS};
 use compare::damage;
 use compare::engine::REFERENCE;
 use compare::entries;
@@ -12,6 +12,7 @@ use compare::lent::{Call, Output, CALLS};
 use compare::likeness;
 use compare::model_file::{self, Lent};
 use compare::random::Random;
+use compare::rival;
 use compare::verdict::Verdict;
 use oracle::Modes;
 use reference::answer::{DONE, NOT_GOOD};
@@ -63,6 +64,7 @@ fn main() -> ExitCode {
     list.grids();
     list.entries();
     list.model_files();
+    list.rivals();
     list.altered();
     println!("{} cases", list.cases.len());
     match std::fs::write(&path, write(&list.cases)) {
@@ -102,11 +104,12 @@ impl List {
     fn freeze(&mut self, call: Call, case: &Case, lengths: &[usize]) {
         let outputs = lengths.iter().enumerate();
         let mut outputs: Vec<Output> = outputs.map(|(place, length)| filled(call, place, *length)).collect();
-        let answer = (REFERENCE.call)(call, case, &mut outputs);
-        self.cases.push(Frozen::of_model(call, case, &answer, &outputs));
+        let given = (REFERENCE.call)(call, case, &mut outputs);
+        self.cases.push(Frozen::of_model(call, case, &given, &outputs));
     }
 
-    /// Holds a case against bio, which has no model file: what is written is held against the rule on bytes.
+    /// Holds a case against bio, which has no model file: what is written is held against the rule on bytes. Nor has it a
+    /// rival, which is held against its Viterbi with a state barred and, where there are few paths, against all of them.
     fn agrees(&self, call: Call, case: &Case) {
         let verdict = match call {
             Call::Viterbi => likeness::viterbi(&self.modes.published, case),
@@ -114,6 +117,7 @@ impl List {
             Call::Backward => likeness::backward(&self.modes.kernels, case),
             Call::BaumWelch => likeness::pass(&self.modes.kernels, case),
             Call::WriteModel => model_file::written_by_the_rule(&REFERENCE, case),
+            Call::Rival => rival::against_bio(&REFERENCE, &self.modes.published, case),
         };
         must_agree(call.name(), &verdict);
         if call == Call::Viterbi && case.shape.ends {
@@ -121,6 +125,10 @@ impl List {
                 "viterbi to the end",
                 &likeness::viterbi_to_the_end(&self.modes.published, case),
             );
+        }
+        if call == Call::Rival && rival::has_few_paths(case) {
+            let add = self.modes.published.leaves.add;
+            must_agree("rival of all paths", &rival::all_paths(&REFERENCE, add, case));
         }
     }
 
@@ -155,47 +163,16 @@ impl List {
 
     /// Models whose best path depends on the end table, E1 to E3 first, and the same without an end state, on all calls.
     fn ends(&mut self) {
-        let mut cases = examples_of_the_way_out().to_vec();
-        for (initial, ends) in WAYS_OUT {
-            cases.extend(ends.iter().map(|end| never_left(initial, end)));
-            cases.push(never_left(initial, ends[0]).without_end_state());
-        }
-        for case in &cases {
+        for case in &ways_out() {
             CALLS.into_iter().for_each(|call| self.call(call, case, 1));
         }
     }
 
     /// Random models of every kind of entry.
     fn models(&mut self) {
-        let kinds = [
-            Kind::Ordinary,
-            Kind::Normalised,
-            Kind::Ties,
-            Kind::Sparse,
-            Kind::Zeros,
-            Kind::Subnormal,
-            Kind::Huge,
-            Kind::Mixed,
-        ];
-        for (states, symbols, samples) in [(1, 1, 1), (2, 3, 4), (3, 2, 5), (4, 4, 7), (5, 3, 2)] {
-            let sizes = Sizes {
-                states,
-                symbols,
-                samples,
-            };
-            for kind in kinds {
-                let case = case::of_kinds(sizes, [kind; 4], &mut self.random);
-                let surplus = self.random.below(3);
-                CALLS.into_iter().for_each(|call| self.call(call, &case, surplus));
-            }
+        for (case, surplus) in models_of_every_kind(&mut self.random) {
+            CALLS.into_iter().for_each(|call| self.call(call, &case, surplus));
         }
-        let largest = Sizes {
-            states: 16,
-            symbols: 12,
-            samples: 40,
-        };
-        let case = case::ordinary(largest, &mut self.random);
-        CALLS.into_iter().for_each(|call| self.call(call, &case, 0));
     }
 
     /// Every refusal from 1 to 8 in every call that gives it, several times; 3 once, on the least number of samples.
@@ -218,7 +195,10 @@ impl List {
                 symbols: 1 + self.random.below(3),
                 samples: 1 + self.random.below(4),
             };
-            let case = case::any(sizes, &mut self.random);
+            let mut case = case::any(sizes, &mut self.random);
+            if call.takes_index() {
+                case.index = self.random.below(sizes.samples);
+            }
             let damaged = damage::single(refusal, call, &case, &mut self.random);
             self.damaged_call(call, &case, &damaged);
         }
@@ -323,6 +303,26 @@ impl List {
         }
     }
 
+    /// Rivals: models of their own, those on which the end table matters, each at every index, and random ones; every
+    /// refusal, and which of several is given.
+    fn rivals(&mut self) {
+        for (case, surplus) in rival::to_freeze(&model_p()) {
+            self.call(Call::Rival, &case, surplus);
+        }
+        for case in ways_out().iter().flat_map(rival::at_every_index) {
+            self.call(Call::Rival, &case, 1);
+        }
+        for (case, surplus) in models_of_every_kind(&mut self.random) {
+            let index = self.random.below(case.samples.len());
+            self.call(Call::Rival, &case.at(index), surplus);
+        }
+        self.refusals(Call::Rival);
+        for (case, lengths, named) in rival::refused_to_freeze(&model_p()) {
+            self.freeze(Call::Rival, &case, &lengths);
+            self.must_name(named);
+        }
+    }
+
     /// Freezes the reading of a file, after holding it against the rule on bytes.
     fn reading(&mut self, lent: &Lent) {
         must_agree("read_model", &model_file::by_the_rule(&REFERENCE, lent));
@@ -402,7 +402,41 @@ fn zeros(states: usize) -> Case {
         initial: vec![0.0; states],
         end: vec![0.0; states],
         samples: Vec::new(),
+        index: 0,
     }
+}
+
+/// Random models of every kind of entry and how much surplus their outputs have, the largest last.
+fn models_of_every_kind(random: &mut Random) -> Vec<(Case, usize)> {
+    let mut cases = Vec::new();
+    for (states, symbols, samples) in [(1, 1, 1), (2, 3, 4), (3, 2, 5), (4, 4, 7), (5, 3, 2)] {
+        let sizes = Sizes {
+            states,
+            symbols,
+            samples,
+        };
+        for kind in KINDS {
+            let case = case::of_kinds(sizes, [kind; 4], random);
+            cases.push((case, random.below(3)));
+        }
+    }
+    let largest = Sizes {
+        states: 16,
+        symbols: 12,
+        samples: 40,
+    };
+    cases.push((case::ordinary(largest, random), 0));
+    cases
+}
+
+/// Models whose best path depends on the end table, E1 to E3 first, and the same without an end state.
+fn ways_out() -> Vec<Case> {
+    let mut cases = examples_of_the_way_out().to_vec();
+    for (initial, ends) in WAYS_OUT {
+        cases.extend(ends.iter().map(|end| never_left(initial, end)));
+        cases.push(never_left(initial, ends[0]).without_end_state());
+    }
+    cases
 }
 
 /// The gate-post examples E1, E2 and E3, the last with an end state and without one.
@@ -433,6 +467,7 @@ fn never_left(initial: &[f64], end: &[f64]) -> Case {
         initial: initial.to_vec(),
         end: end.to_vec(),
         samples: vec![0, 0],
+        index: 0,
     }
 }
 

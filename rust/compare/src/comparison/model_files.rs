@@ -2,7 +2,6 @@
 
 use super::{Amount, Comparison};
 use crate::case::Case;
-use crate::engine::{Engine, REFERENCE};
 use crate::lent::Call;
 use crate::model_file::{self, Lent};
 use crate::verdict::Verdict;
@@ -33,12 +32,6 @@ impl Comparison {
             }
         }
         self.lengths();
-    }
-
-    /// Each of those who take part, with a name.
-    fn engines(&self) -> impl Iterator<Item = (&'static str, Engine)> {
-        let library = self.library.map(|library| ("library", library));
-        std::iter::once(("reference", REFERENCE)).chain(library)
     }
 
     /// A good model, written: its bytes, the lent memory, and what is read of them.

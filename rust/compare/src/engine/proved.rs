@@ -1,9 +1,9 @@
 //! The proved library, by its raw calls.
 
-use super::{estimates, Engine, Leaves, ModelFile};
+use super::{estimates, Engine, Given, Leaves, ModelFile};
 use crate::case::Case;
 use crate::lent::{Call, Output};
-use reference::{Answer, Reading, Shape, Tables};
+use reference::{Answer, Reading, Rivalry, Shape, Tables};
 use wasnugram::raw;
 
 pub const LIBRARY: Engine = Engine {
@@ -33,9 +33,17 @@ fn answer(given: raw::Answer) -> Answer {
     }
 }
 
-fn call(call: Call, case: &Case, outputs: &mut [Output]) -> Answer {
+fn rivalry(given: raw::Rivalry) -> Rivalry {
+    Rivalry {
+        answer: answer(given.answer),
+        chosen: given.chosen,
+        best: given.best,
+    }
+}
+
+fn call(call: Call, case: &Case, outputs: &mut [Output]) -> Given {
     let model = lent_model(case);
-    answer(match (call, outputs) {
+    let given = match (call, outputs) {
         (Call::Viterbi, [Output::Bytes(path), Output::Numbers(values), Output::Bytes(from)]) => {
             raw::viterbi(&model, &case.samples, path, values, from)
         }
@@ -43,8 +51,12 @@ fn call(call: Call, case: &Case, outputs: &mut [Output]) -> Answer {
         (Call::Backward, [Output::Numbers(values)]) => raw::backward(&model, &case.samples, values),
         (Call::BaumWelch, outputs) => raw::baum_welch(&model, &case.samples, &mut lent(outputs)),
         (Call::WriteModel, [Output::Bytes(file)]) => raw::write_model(&model, file),
+        (Call::Rival, [Output::Bytes(path), Output::Bytes(rival), Output::Numbers(values), Output::Bytes(from)]) => {
+            return rivalry(raw::rival(&model, &case.samples, case.index, path, rival, values, from)).into();
+        }
         _ => unreachable!("each call is lent its own outputs"),
-    })
+    };
+    answer(given).into()
 }
 
 fn read(file: &[u8], tables: &mut Tables) -> Reading {

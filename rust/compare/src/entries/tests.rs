@@ -3,7 +3,7 @@
 use super::rounds::{with, Put, SIZES};
 use super::{by_the_rule, first_fault, is_good, is_good_in, round, BLOCK, MINUS_INFINITY, MINUS_ZERO};
 use crate::case::{ordinary, Case, Sizes};
-use crate::engine::{Engine, REFERENCE};
+use crate::engine::{Engine, Given, REFERENCE};
 use crate::lent::{lend, Call, Output};
 use crate::likeness;
 use crate::random::Random;
@@ -11,7 +11,7 @@ use reference::answer::NOT_GOOD;
 use reference::Answer;
 
 /// Answers a call.
-type Answers = fn(Call, &Case, &mut [Output]) -> Answer;
+type Answers = fn(Call, &Case, &mut [Output]) -> Given;
 
 /// Looks for the first bad word of a table.
 type Finds = fn(&[u64]) -> Option<usize>;
@@ -46,20 +46,20 @@ fn is_seen(call: Answers, case: &Case) -> [bool; 2] {
 #[test]
 fn a_wrong_answer_is_seen() {
     let wrong: [Answers; 5] = [
-        |_, _, _| Answer::done(f64::NEG_INFINITY),
-        |_, _, _| Answer::refused(NOT_GOOD, 0, PLACE + 1),
-        |_, _, _| Answer::refused(NOT_GOOD, 0, PLACE - 1),
-        |_, _, _| Answer::refused(NOT_GOOD, 1, PLACE),
-        |_, _, _| Answer {
-            value: 0.0,
-            ..Answer::refused(NOT_GOOD, 0, PLACE)
+        |_, _, _| Answer::done(f64::NEG_INFINITY).into(),
+        |_, _, _| Answer::refused(NOT_GOOD, 0, PLACE + 1).into(),
+        |_, _, _| Answer::refused(NOT_GOOD, 0, PLACE - 1).into(),
+        |_, _, _| Answer::refused(NOT_GOOD, 1, PLACE).into(),
+        |_, _, _| {
+            let refused = Answer::refused(NOT_GOOD, 0, PLACE);
+            Answer { value: 0.0, ..refused }.into()
         },
     ];
     for answer in wrong {
         assert_eq!(is_seen(answer, &bad(0)), [true; 2]);
     }
     assert_eq!(
-        is_seen(|_, _, _| Answer::refused(NOT_GOOD, 0, PLACE), &bad(0)),
+        is_seen(|_, _, _| Answer::refused(NOT_GOOD, 0, PLACE).into(), &bad(0)),
         [false; 2]
     );
 }
@@ -73,7 +73,10 @@ fn a_good_entry_that_is_refused_is_seen() {
     };
     for samples in [0, 2] {
         let good = with(&bad(samples), &[put]);
-        assert_eq!(is_seen(|_, _, _| Answer::refused(NOT_GOOD, 0, PLACE), &good), [true; 2]);
+        assert_eq!(
+            is_seen(|_, _, _| Answer::refused(NOT_GOOD, 0, PLACE).into(), &good),
+            [true; 2]
+        );
         assert_eq!(is_seen(REFERENCE.call, &good), [false; 2]);
     }
 }

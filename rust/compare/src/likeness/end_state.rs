@@ -43,6 +43,7 @@ pub fn as_a_state(case: &Case) -> Case {
         initial: [&case.initial[..], &[MINUS]].concat(),
         end: vec![0.0; states + 1],
         samples: [&case.samples[..], &[symbols as u16]].concat(),
+        index: case.index,
     }
 }
 
@@ -71,18 +72,18 @@ mod tests {
     /// Ends in state 0, with the right value.
     const ENDS_IN_0: Engine = Engine {
         call: |call, case, outputs| {
-            let answer = (REFERENCE.call)(call, case, outputs);
+            let given = (REFERENCE.call)(call, case, outputs);
             if let Output::Bytes(path) = &mut outputs[0] {
                 path.iter_mut().for_each(|state| *state = 0);
             }
-            answer
+            given
         },
         ..REFERENCE
     };
 
     /// Adds an end entry of +0.0 where there is no end state.
     const ADDS_ZERO: Engine = Engine {
-        call: |call, case, outputs| Answer::done((REFERENCE.call)(call, case, outputs).value + 0.0),
+        call: |call, case, outputs| Answer::done((REFERENCE.call)(call, case, outputs).answer.value + 0.0).into(),
         ..REFERENCE
     };
 
@@ -99,6 +100,7 @@ mod tests {
             initial: initial.to_vec(),
             end: end.to_vec(),
             samples: vec![0],
+            index: 0,
         }
     }
 

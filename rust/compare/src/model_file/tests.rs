@@ -56,6 +56,7 @@ fn small() -> [Case; 2] {
         initial: vec![-1.0, -2.0],
         end: vec![-0.0, -4.0],
         samples: Vec::new(),
+        index: 0,
     };
     [ends.without_end_state(), ends]
 }

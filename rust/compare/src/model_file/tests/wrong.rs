@@ -1,17 +1,17 @@
 //! Readers and writers that are wrong, each in its own way.
 
 use crate::case::Case;
-use crate::engine::REFERENCE;
+use crate::engine::{Given, REFERENCE};
 use crate::lent::{Call, Output};
 use crate::model_file::rule::{self, places, shape_of, size_fault};
 use reference::answer::{BAD_SUM, DONE, NOT_GOOD, OUTPUT_TOO_SHORT};
-use reference::{read_model, Answer, Reading, Shape, Tables};
+use reference::{read_model, Reading, Shape, Tables};
 
 /// Reads a file into tables.
 pub type Reads = fn(&[u8], &mut Tables) -> Reading;
 
 /// Answers a call.
-pub type Answers = fn(Call, &Case, &mut [Output]) -> Answer;
+pub type Answers = fn(Call, &Case, &mut [Output]) -> Given;
 
 /// Changes the bytes of a file of this shape.
 type Changes = fn(Shape, &mut Vec<u8>);
@@ -186,12 +186,12 @@ pub const READERS: [(&str, Reads); 20] = [
 ];
 
 /// A writer whose file is changed after it is done.
-fn write_changed(call: Call, case: &Case, outputs: &mut [Output], changes: Changes) -> Answer {
-    let answer = (REFERENCE.call)(call, case, outputs);
-    if let (DONE, [Output::Bytes(file)]) = (answer.refusal, outputs) {
+fn write_changed(call: Call, case: &Case, outputs: &mut [Output], changes: Changes) -> Given {
+    let given = (REFERENCE.call)(call, case, outputs);
+    if let (DONE, [Output::Bytes(file)]) = (given.answer.refusal, outputs) {
         changes(case.shape, file);
     }
-    answer
+    given
 }
 
 /// Writers by what is wrong with them.
@@ -223,10 +223,8 @@ pub const WRITERS: [(&str, Answers); 7] = [
         (REFERENCE.call)(call, &plain, outputs)
     }),
     ("done is minus infinity", |call, case, outputs| {
-        let answer = (REFERENCE.call)(call, case, outputs);
-        Answer {
-            value: f64::NEG_INFINITY,
-            ..answer
-        }
+        let mut given = (REFERENCE.call)(call, case, outputs);
+        given.answer.value = f64::NEG_INFINITY;
+        given
     }),
 ];
