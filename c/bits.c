@@ -9,8 +9,8 @@
 #include "layout.h"
 #include "random.h"
 
-enum { CASES = 250000, ARENA = 4096, OUTPUT = 5, BUFFERS = 11, REFUSALS = 15 };
-enum call { VITERBI, FORWARD, BACKWARD, BAUM_WELCH, WRITE_MODEL, READ_MODEL, LN_SUM_EXP, LN_CUMSUM_EXP, CALLS };
+enum { CASES = 250000, ARENA = 4096, OUTPUT = 5, BUFFERS = 11, REFUSALS = 17 };
+enum call { VITERBI, RIVAL, FORWARD, BACKWARD, BAUM_WELCH, WRITE_MODEL, READ_MODEL, LN_SUM_EXP, LN_CUMSUM_EXP, CALLS };
 
 /* The refusals that each call has to meet, done among them. */
 static const struct {
@@ -18,6 +18,7 @@ static const struct {
     unsigned refusals;
 } CALL[CALLS] = {
     [VITERBI] = { "viterbi", 0x1ef },
+    [RIVAL] = { "rival", 0x181ef },
     [FORWARD] = { "forward", 0x1ff },
     [BACKWARD] = { "backward", 0x1ef },
     [BAUM_WELCH] = { "baum_welch", 0x3ff },
@@ -36,7 +37,7 @@ static struct buffer buffers[BUFFERS];
 static _Alignas(8) unsigned char arena[ARENA], before[ARENA];
 static size_t used;
 static wasnugram_shape shape;
-static size_t samples_length;
+static size_t samples_length, asked;
 
 /* Sets a buffer out after a gap. */
 static void place(size_t number, size_t entry, size_t length, size_t needed) {
@@ -50,13 +51,19 @@ static void place_output(size_t number, size_t entry, size_t needed) {
     place(number, entry, needed + below(4), needed);
 }
 
+/* The outputs of the best path, or those of the rival, which has a path more. */
+static void place_paths(size_t paths, size_t states, size_t samples) {
+    size_t cells = states * samples;
+    for (size_t i = 0; i < paths; i++) place_output(OUTPUT + i, 1, samples);
+    place_output(OUTPUT + paths, sizeof(double), cells);
+    place_output(OUTPUT + paths + 1, 1, cells);
+}
+
 static void place_outputs(enum call call, size_t states, size_t symbols, size_t samples) {
     size_t cells = states * samples;
     const size_t pass[] = { states * states, states * symbols, states, states, cells, cells };
-    if (call == VITERBI) {
-        place_output(OUTPUT, 1, samples);
-        place_output(OUTPUT + 1, sizeof(double), cells);
-        place_output(OUTPUT + 2, 1, cells);
+    if (call == VITERBI || call == RIVAL) {
+        place_paths(call == RIVAL ? 2 : 1, states, samples);
     } else if (call == BAUM_WELCH) {
         for (size_t i = 0; i < 6; i++) place_output(OUTPUT + i, sizeof(double), pass[i]);
     } else if (call == WRITE_MODEL) {
@@ -97,9 +104,16 @@ static void damage(size_t number) {
     if (buffers[number].length) set_buffer(number, below(buffers[number].length), bad_bits());
 }
 
-/* What is wrong with a case on a model, by the number of the refusal that it asks for. */
+/* How many outputs are set out. */
+static size_t outputs(void) {
+    size_t number = OUTPUT;
+    while (number < BUFFERS && buffers[number].entry) number++;
+    return number - OUTPUT;
+}
+
+/* What is wrong with a case on a model, by the number of the refusal that it asks for; 15 and 16 come without asking. */
 static void spoil(unsigned fault) {
-    size_t table = below(4), output = OUTPUT + below(buffers[OUTPUT + 5].entry ? 6 : buffers[OUTPUT + 2].entry ? 3 : 1);
+    size_t table = below(4), output = OUTPUT + below(outputs());
     switch (fault) {
     case 1: shape.states = below(2) ? 0 : 65 + below(SIZE_MAX >> 12); break;
     case 2: shape.symbols = below(2) ? 0 : 257 + below(SIZE_MAX >> 12); break;
@@ -117,6 +131,7 @@ static void place_model(size_t samples) {
     size_t states = 1 + below(4), symbols = 1 + below(5);
     shape = (wasnugram_shape){ states, symbols, (uint8_t)(below(2) ? random_bits() : 0) };
     samples_length = samples;
+    asked = samples && below(4) ? below(samples) : samples + below(3);
     for (size_t i = 0; i < 4; i++) place(i, sizeof(double), words_in(shape, i), 0);
     place(4, sizeof(uint16_t), samples, 0);
 }
@@ -186,6 +201,7 @@ static void set_case(enum call call) {
 static wasnugram_answer made(enum call call) {
     switch (call) {
     case VITERBI: return wasnugram_viterbi(MODEL, LENT(5), LENT(6), LENT(7));
+    case RIVAL: return wasnugram_rival(MODEL, asked, LENT(5), LENT(6), LENT(7), LENT(8)).answer;
     case FORWARD: return wasnugram_forward(MODEL, LENT(5));
     case BACKWARD: return wasnugram_backward(MODEL, LENT(5));
     case BAUM_WELCH: return wasnugram_baum_welch(MODEL, LENT(5), LENT(6), LENT(7), LENT(8), LENT(9), LENT(10));

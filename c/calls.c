@@ -14,6 +14,8 @@ _Static_assert(sizeof(wasnugram_shape) == 24 && offsetof(wasnugram_shape, symbol
 _Static_assert(sizeof(wasnugram_answer) == 24 && offsetof(wasnugram_answer, table) == 1 && offsetof(wasnugram_answer, place) == 8 &&
                    offsetof(wasnugram_answer, value) == 16, "answer");
 _Static_assert(sizeof(wasnugram_reading) == 48 && offsetof(wasnugram_reading, shape) == 24, "reading");
+_Static_assert(sizeof(wasnugram_rivalry) == 40 && offsetof(wasnugram_rivalry, chosen) == 24 && offsetof(wasnugram_rivalry, best) == 32,
+               "rivalry");
 
 /* The sizes that the header gives, at a gate of 12 states, 256 symbols and 240 samples. */
 #define IS(size, entries) _Static_assert((size) == (entries), #size)
@@ -26,6 +28,10 @@ IS(WASNUGRAM_MODEL_FILE(10 + 2, 255 + 1, 1 + 1), 25992);
 IS(WASNUGRAM_VITERBI_PATH(240), 240);
 IS(WASNUGRAM_VITERBI_VALUES(10 + 2, 239 + 1), 2880);
 IS(WASNUGRAM_VITERBI_FROM(10 + 2, 239 + 1), 2880);
+IS(WASNUGRAM_RIVAL_PATH(240), 240);
+IS(WASNUGRAM_RIVAL_RIVAL_PATH(240), 240);
+IS(WASNUGRAM_RIVAL_VALUES(10 + 2, 239 + 1), 2880);
+IS(WASNUGRAM_RIVAL_FROM(10 + 2, 239 + 1), 2880);
 IS(WASNUGRAM_FORWARD_VALUES(10 + 2, 239 + 1), 2880);
 IS(WASNUGRAM_BACKWARD_VALUES(10 + 2, 239 + 1), 2880);
 IS(WASNUGRAM_BAUM_WELCH_NEW_TRANSITION(10 + 2), 144);
@@ -79,7 +85,7 @@ struct lent {
     struct numbers tables[4];
     uint16_t samples[4];
     size_t samples_length;
-    struct bytes path, from;
+    struct bytes path, rival_path, from;
     struct {
         uint8_t entries[FILE_ROOM];
         size_t length;
@@ -88,6 +94,7 @@ struct lent {
 };
 
 static wasnugram_shape shape;
+static size_t asked; /* the index at which a rival is asked for */
 static struct lent lent, before;
 
 static void copy(double *to, const double *entries, size_t n) {
@@ -109,8 +116,18 @@ static void lend(void) {
     copy(lent.tables[3].entries, end, S);
     for (size_t i = 0; i < 4; i++) lent.tables[i].length = needed[i];
     lent.samples[0] = 0, lent.samples[1] = 2, lent.samples_length = T;
-    lent.path.length = T + 1, lent.from.length = S * T + 2, lent.file.length = FILE_BYTES + 5;
+    lent.path.length = T + 1, lent.rival_path.length = T + 4, lent.from.length = S * T + 2, lent.file.length = FILE_BYTES + 5;
     for (size_t i = 0; i < 6; i++) lent.outputs[i].length = needed[i] + 3;
+    asked = 1;
+}
+
+/* The chain with more ways, so that its state has a rival at each sample: state 1 may come first, and either state may stay. */
+static void lend_fork(void) {
+    lend();
+    lent.tables[0].entries[0] = -2048, lent.tables[0].entries[3] = -1024;
+    lent.tables[1].entries[2] = -4096, lent.tables[1].entries[3] = -256;
+    lent.tables[2].entries[1] = -512;
+    lent.tables[3].entries[0] = -8192;
 }
 
 static int untouched(void) {
@@ -126,6 +143,20 @@ static int untouched(void) {
 
 static wasnugram_answer viterbi(void) {
     return wasnugram_viterbi(MODEL, LENT(lent.path), LENT(lent.outputs[0]), LENT(lent.from));
+}
+
+static wasnugram_rivalry rival(void) {
+    return wasnugram_rival(MODEL, asked, LENT(lent.path), LENT(lent.rival_path), LENT(lent.outputs[0]), LENT(lent.from));
+}
+
+/* The rival's answer. Where it is refused, no state is chosen and no path is best. */
+static wasnugram_answer answer_in(wasnugram_rivalry r) {
+    if (r.answer.refusal != WASNUGRAM_DONE) EXPECT(r.chosen == 0 && bits(r.best) == bits(MINUS_INFINITY));
+    return r.answer;
+}
+
+static wasnugram_answer rival_answer(void) {
+    return answer_in(rival());
 }
 
 static wasnugram_answer forward(void) {
@@ -156,6 +187,12 @@ static wasnugram_answer viterbi_of(size_t room) {
     return wasnugram_viterbi_of(&m, lent.samples, lent.samples_length, &outputs);
 }
 
+static wasnugram_answer rival_of(size_t room) {
+    wasnugram_model m = model();
+    wasnugram_rival_outputs outputs = { room, lent.path.entries, lent.rival_path.entries, lent.outputs[0].entries, lent.from.entries };
+    return answer_in(wasnugram_rival_of(&m, lent.samples, lent.samples_length, asked, &outputs));
+}
+
 static wasnugram_answer forward_of(size_t room) {
     wasnugram_model m = model();
     wasnugram_likelihood_outputs outputs = { room, lent.outputs[0].entries };
@@ -181,8 +218,10 @@ static wasnugram_answer write_model_of(size_t room) {
     return wasnugram_write_model_of(&m, lent.file.entries, FILE_BYTES - T + room);
 }
 
-/* A call on a model, and each of its outputs in order: where its length stands, and what is needed. The last takes no samples. */
+/* A call on a model: what lends its model, and each of its outputs in order: where its length stands, and what is needed. The last takes no
+ * samples. */
 struct call {
+    void (*lend)(void);
     wasnugram_answer (*plain)(void);
     wasnugram_answer (*of)(size_t room);
     double value;
@@ -194,15 +233,18 @@ struct call {
 };
 
 static const struct call CALLS[] = {
-    { viterbi, viterbi_of, -31, 3, { { &lent.path.length, T }, { &lent.outputs[0].length, S * T }, { &lent.from.length, S * T } } },
-    { forward, forward_of, -31, 1, { { &lent.outputs[0].length, S * T } } },
-    { backward, backward_of, -31, 1, { { &lent.outputs[0].length, S * T } } },
-    { baum_welch, baum_welch_of, -31, 6,
+    { lend, viterbi, viterbi_of, -31, 3, { { &lent.path.length, T }, { &lent.outputs[0].length, S * T }, { &lent.from.length, S * T } } },
+    { lend, forward, forward_of, -31, 1, { { &lent.outputs[0].length, S * T } } },
+    { lend, backward, backward_of, -31, 1, { { &lent.outputs[0].length, S * T } } },
+    { lend, baum_welch, baum_welch_of, -31, 6,
       { { &lent.outputs[0].length, S * S }, { &lent.outputs[1].length, S * M }, { &lent.outputs[2].length, S },
         { &lent.outputs[3].length, S }, { &lent.outputs[4].length, S * T }, { &lent.outputs[5].length, S * T } } },
-    { write_model, write_model_of, 0, 1, { { &lent.file.length, FILE_BYTES } } },
+    { lend_fork, rival_answer, rival_of, -14341, 4,
+      { { &lent.path.length, T }, { &lent.rival_path.length, T }, { &lent.outputs[0].length, S * T }, { &lent.from.length, S * T } } },
+    { lend, write_model, write_model_of, 0, 1, { { &lent.file.length, FILE_BYTES } } },
 };
 enum { ALL_CALLS = sizeof CALLS / sizeof CALLS[0], CALLS_ON_SAMPLES = ALL_CALLS - 1 };
+static const struct call *const RIVAL = &CALLS[4];
 
 /* The call is refused so, and no lent byte has changed. */
 static void refused(const struct call *call, uint8_t refusal, uint8_t table, size_t place) {
@@ -214,13 +256,13 @@ static void refused(const struct call *call, uint8_t refusal, uint8_t table, siz
 /* A wrong length, a NaN and a smallest number above zero, in each table. */
 static void tables_refused(const struct call *call) {
     for (uint8_t i = 0; i < 4; i++) {
-        lend();
+        call->lend();
         lent.tables[i].length -= 1;
         refused(call, WASNUGRAM_WRONG_LENGTH, i, lent.tables[i].length);
-        lend();
+        call->lend();
         lent.tables[i].entries[1] = NOT_A_NUMBER;
         refused(call, WASNUGRAM_NOT_GOOD, i, 1);
-        lend();
+        call->lend();
         lent.tables[i].entries[0] = 0x1p-1074;
         refused(call, WASNUGRAM_NOT_GOOD, i, 0);
     }
@@ -229,7 +271,7 @@ static void tables_refused(const struct call *call) {
 /* Each output is one place too short. */
 static void outputs_refused(const struct call *call) {
     for (uint8_t i = 0; i < call->outputs; i++) {
-        lend();
+        call->lend();
         *call->output[i].length = call->output[i].needed - 1;
         refused(call, WASNUGRAM_OUTPUT_TOO_SHORT, 5 + i, call->output[i].needed - 1);
     }
@@ -238,27 +280,27 @@ static void outputs_refused(const struct call *call) {
 static void sizes_refused(const struct call *call) {
     static const size_t bad_states[] = { 0, WASNUGRAM_MOST_STATES + 1 }, bad_symbols[] = { 0, WASNUGRAM_MOST_SYMBOLS + 1 };
     for (size_t i = 0; i < 2; i++) {
-        lend();
+        call->lend();
         shape.states = bad_states[i];
         refused(call, WASNUGRAM_BAD_STATES, 0, bad_states[i]);
-        lend();
+        call->lend();
         shape.symbols = bad_symbols[i];
         refused(call, WASNUGRAM_BAD_SYMBOLS, 0, bad_symbols[i]);
     }
 }
 
 static void samples_refused(const struct call *call) {
-    lend();
+    call->lend();
     lent.samples_length = WASNUGRAM_MOST_SAMPLES + 1;
     refused(call, WASNUGRAM_TOO_MANY_SAMPLES, WASNUGRAM_SAMPLES, WASNUGRAM_MOST_SAMPLES + 1);
-    lend();
+    call->lend();
     lent.samples[1] = M;
     refused(call, WASNUGRAM_UNKNOWN_SYMBOL, WASNUGRAM_SAMPLES, 1);
 }
 
 /* Without an end state the end table is +0.0 alone. */
 static void end_refused(const struct call *call) {
-    lend();
+    call->lend();
     shape.ends = 0;
     refused(call, WASNUGRAM_NOT_GOOD, WASNUGRAM_END, 0);
     lent.tables[3].entries[0] = 0, lent.tables[3].entries[1] = -0.0;
@@ -267,13 +309,13 @@ static void end_refused(const struct call *call) {
 
 /* The form with structs writes the same into the same memory, and refuses where the room is too small. */
 static void same_with_structs(const struct call *call) {
-    lend();
+    call->lend();
     EXPECT(is_done(call->plain(), call->value));
     before = lent;
-    lend();
+    call->lend();
     wasnugram_answer a = call->of(T + 1);
     EXPECT(is_done(a, call->value) && wasnugram_is_possible(a) && untouched());
-    lend();
+    call->lend();
     before = lent;
     a = call->of(T - 1);
     EXPECT(a.refusal == WASNUGRAM_OUTPUT_TOO_SHORT && untouched());
@@ -337,6 +379,8 @@ static const struct ending {
     { 0, { -0.0, -1 }, -0.0, { 0, 0 }, 0, -0.0 },
     { 1, { -0.0, -1 }, -0.0, { 0, 0 }, 0, 0 },
     { 1, { -0.0, -1 }, -0.0, { -0.0, 0 }, 0, -0.0 },
+    { 0, { -0.0, -0.0 }, -0.0, { 0, 0 }, 1, -0.0 },
+    { 2, { -0.0, -0.0 }, -0.0, { 0, 0 }, 1, 0 },
 };
 
 static void lend_ending(const struct ending *e) {
@@ -366,6 +410,87 @@ static void endings(void) {
         lend_ending(&ENDINGS[i]);
         EXPECT(ends_so(&ENDINGS[i], viterbi_of(1)));
     }
+}
+
+/* What the rival is and writes of the fork, at each of its samples. */
+static const struct {
+    size_t chosen;
+    double value, values[S * T];
+    uint8_t rival_path[T], from[S * T];
+} FORK[T] = {
+    { 0, -1816, { MINUS_INFINITY, -768, MINUS_INFINITY, -1800 }, { 1, 1 }, { 0, 1, 1, 1 } },
+    { 1, -14341, { -5, -768, -6149, MINUS_INFINITY }, { 0, 0 }, { 0, 1, 0, 0 } },
+};
+
+static int is_rival(wasnugram_rivalry r, double value, size_t chosen, double best) {
+    return is_done(r.answer, value) && wasnugram_is_possible(r.answer) && r.chosen == chosen && bits(r.best) == bits(best);
+}
+
+static void rivals(void) {
+    static const uint8_t path[] = { 0, 1 };
+    for (size_t i = 0; i < T; i++) {
+        lend_fork();
+        asked = i;
+        EXPECT(is_rival(rival(), FORK[i].value, FORK[i].chosen, -31));
+        EXPECT(holds_states(&lent.path, T, path) && holds_states(&lent.rival_path, T, FORK[i].rival_path));
+        EXPECT(holds(&lent.outputs[0], S * T, FORK[i].values) && holds_states(&lent.from, S * T, FORK[i].from));
+    }
+}
+
+/* Over one sample the rival is the other state: its score ends as the best path's does, and where it is minus infinity there is none. */
+static void rival_ends(const struct ending *e) {
+    uint8_t other = 1 - e->last, from[] = { 0, 1 };
+    double values[] = { MINUS_INFINITY, MINUS_INFINITY }, value;
+    values[other] = e->initial[other] + e->emission;
+    value = e->ends ? values[other] + e->end[other] : values[other];
+    lend_ending(e);
+    asked = 0;
+    if (value == MINUS_INFINITY) {
+        refused(RIVAL, WASNUGRAM_NO_RIVAL, 0, 0);
+        return;
+    }
+    EXPECT(is_rival(rival(), value, e->last, e->value));
+    EXPECT(holds_states(&lent.path, 1, &e->last) && holds_states(&lent.rival_path, 1, &other));
+    EXPECT(holds(&lent.outputs[0], S, values) && holds_states(&lent.from, S, from));
+}
+
+static void rival_endings(void) {
+    for (size_t i = 0; i < sizeof ENDINGS / sizeof ENDINGS[0]; i++) rival_ends(&ENDINGS[i]);
+}
+
+/* No rival: the chain has one way, at each of its samples; the fork has none where no path explains the samples, and none in one state. */
+static void no_rival(void) {
+    lend();
+    refused(RIVAL, WASNUGRAM_NO_RIVAL, 0, 0);
+    asked = 0;
+    refused(RIVAL, WASNUGRAM_NO_RIVAL, 0, 0);
+    lend_fork();
+    lent.tables[2].entries[0] = MINUS_INFINITY, lent.tables[2].entries[1] = MINUS_INFINITY;
+    refused(RIVAL, WASNUGRAM_NO_RIVAL, 0, 0);
+    lend_fork();
+    shape.states = 1;
+    lent.tables[0].length = 1, lent.tables[1].length = M, lent.tables[2].length = 1, lent.tables[3].length = 1;
+    refused(RIVAL, WASNUGRAM_NO_RIVAL, 0, 0);
+}
+
+/* An index outside of the samples, and of none. It is told after every fault of what is lent and before there is no rival. */
+static void bad_index(void) {
+    static const size_t bad[] = { T, T + 1, (size_t)1 << 32, SIZE_MAX };
+    for (size_t i = 0; i < sizeof bad / sizeof bad[0]; i++) {
+        lend();
+        asked = bad[i];
+        refused(RIVAL, WASNUGRAM_BAD_INDEX, 0, 0);
+        lend_fork();
+        asked = bad[i];
+        refused(RIVAL, WASNUGRAM_BAD_INDEX, 0, 0);
+        lent.samples[0] = M;
+        refused(RIVAL, WASNUGRAM_UNKNOWN_SYMBOL, WASNUGRAM_SAMPLES, 0);
+        lent.from.length = 0;
+        refused(RIVAL, WASNUGRAM_OUTPUT_TOO_SHORT, 8, 0);
+    }
+    lend_fork();
+    lent.samples_length = 0, asked = 0;
+    refused(RIVAL, WASNUGRAM_BAD_INDEX, 0, 0);
 }
 
 /* What a training pass writes of the chain: the way through is certain. */
@@ -655,6 +780,12 @@ static void nothing_lent(void) {
     EXPECT(is_refused(a, WASNUGRAM_WRONG_LENGTH, 0, 0));
     a = wasnugram_baum_welch(shape, TABLES, lent.samples, 1, 0, 0, 0, 0, 0, 0, 0, 0, 0, 0, 0, 0);
     EXPECT(is_refused(a, WASNUGRAM_OUTPUT_TOO_SHORT, 5, 0));
+    a = answer_in(wasnugram_rival(shape, 0, 0, 0, 0, 0, 0, 0, 0, 0, 0, 0, 0, 0, 0, 0, 0, 0, 0, 0));
+    EXPECT(is_refused(a, WASNUGRAM_WRONG_LENGTH, 0, 0));
+    a = answer_in(wasnugram_rival(shape, TABLES, 0, 0, 0, 0, 0, 0, 0, 0, 0, 0, 0));
+    EXPECT(is_refused(a, WASNUGRAM_BAD_INDEX, 0, 0));
+    a = answer_in(wasnugram_rival(shape, TABLES, lent.samples, 1, 0, 0, 0, 0, 0, 0, 0, 0, 0));
+    EXPECT(is_refused(a, WASNUGRAM_OUTPUT_TOO_SHORT, 5, 0));
     wasnugram_model m = model();
     EXPECT(is_done(wasnugram_check_of(&m), MINUS_INFINITY));
     lent.tables[1].entries[5] = 1;
@@ -676,6 +807,25 @@ static void gate_posts(void) {
     EXPECT(is_done(wasnugram_viterbi_of(&models[1], still, 2, &outputs), 0) && path[0] == 1 && path[1] == 1);
     wasnugram_answer a = wasnugram_viterbi_of(&models[2], still, 2, &outputs);
     EXPECT(is_done(a, MINUS_INFINITY) && path[0] == 2 && path[1] == 2 && !wasnugram_is_possible(a));
+}
+
+/* The rivals at each sample of P1, whose last is a tie of two predecessors, and of Z1 with a sample more, where all paths tie. */
+static void rivals_of_gate_posts(void) {
+    static const double p[] = { -1, -2, -2, -1 }, emission[] = { -1, -3, -3, -1 }, zeros[4];
+    static const uint16_t passage[] = { 0, 1, 1 }, still[] = { 0, 0, 0 };
+    static const uint8_t expected[2][3][3] = { { { 1, 1, 1 }, { 0, 0, 1 }, { 0, 1, 0 } }, { { 0, 1, 1 }, { 1, 0, 1 }, { 1, 1, 0 } } };
+    static const double value[2][3] = { { -9, -9, -10 }, { 0, 0, 0 } };
+    uint8_t path[4], rival_path[4], from[8];
+    double values[8];
+    const wasnugram_rival_outputs outputs = { 4, path, rival_path, values, from };
+    const wasnugram_model models[] = { { { 2, 2, 0 }, p, emission, p, zeros }, { { 2, 2, 0 }, zeros, zeros, zeros, zeros } };
+    for (size_t i = 0; i < 2 * 3; i++) {
+        size_t post = i / 3, index = i % 3;
+        const uint8_t *states = expected[post][index];
+        wasnugram_rivalry r = wasnugram_rival_of(&models[post], post ? still : passage, 3, index, &outputs);
+        EXPECT(path[0] == post && path[1] == 1 && path[2] == 1 && is_rival(r, value[post][index], path[index], post ? 0 : -7));
+        EXPECT(rival_path[0] == states[0] && rival_path[1] == states[1] && rival_path[2] == states[2]);
+    }
 }
 
 /* Possible is done and above minus infinity, and both are asked. */
@@ -727,11 +877,16 @@ int calls_wrong(void) {
     calls_on_a_model();
     walks();
     endings();
+    rivals();
+    rival_endings();
+    no_rival();
+    bad_index();
     a_pass();
     zero_mass();
     model_files();
     nothing_lent();
     gate_posts();
+    rivals_of_gate_posts();
     possible();
     kernels();
     leaves();

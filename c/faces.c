@@ -1,6 +1,6 @@
-/* Wrong faces, and whether calls.c sees each: any two arguments of one type exchanged in an export, any two fields of a shape or an
- * answer, any two exports of one signature; a best path that ends in a wrong way; and a wrong reader or writer of model files. The linker
- * puts these functions between calls.c and the archive (--wrap). */
+/* Wrong faces, and whether calls.c sees each: any two arguments of one type exchanged in an export, any two fields of a shape, an answer
+ * or a rivalry, any two exports of one signature; a best path that ends in a wrong way; a wrong rival; and a wrong reader or writer of
+ * model files. The linker puts these functions between calls.c and the archive (--wrap). */
 #include <stdio.h>
 #include <string.h>
 #include "wasnugram.h"
@@ -9,9 +9,9 @@
 
 /* What can be exchanged within: how many places each has. */
 enum group {
-    VITERBI_NUMBERS, VITERBI_BYTES, VITERBI_SHAPE, FORWARD_NUMBERS, FORWARD_SHAPE, BACKWARD_NUMBERS, BACKWARD_SHAPE,
-    PASS_NUMBERS, PASS_SHAPE, READ_NUMBERS, READ_SHAPE, WRITE_NUMBERS, WRITE_SHAPE, LENGTH_SHAPE, ADD_ARGUMENTS, SUB_ARGUMENTS,
-    CAP_ARGUMENTS, CUMSUM_NUMBERS, ANSWER, WALKS, OF_ONE, OF_TWO, GROUPS
+    VITERBI_NUMBERS, VITERBI_BYTES, VITERBI_SHAPE, RIVAL_NUMBERS, RIVAL_BYTES, RIVAL_SHAPE, RIVAL_COUNTS, RIVALRY_COUNTS, RIVALRY_VALUES,
+    FORWARD_NUMBERS, FORWARD_SHAPE, BACKWARD_NUMBERS, BACKWARD_SHAPE, PASS_NUMBERS, PASS_SHAPE, READ_NUMBERS, READ_SHAPE, WRITE_NUMBERS,
+    WRITE_SHAPE, LENGTH_SHAPE, ADD_ARGUMENTS, SUB_ARGUMENTS, CAP_ARGUMENTS, CUMSUM_NUMBERS, ANSWER, WALKS, OF_ONE, OF_TWO, GROUPS
 };
 
 static const struct {
@@ -21,6 +21,12 @@ static const struct {
     [VITERBI_NUMBERS] = { "doubles of viterbi", 5 },
     [VITERBI_BYTES] = { "bytes of viterbi", 2 },
     [VITERBI_SHAPE] = { "shape of viterbi", 3 },
+    [RIVAL_NUMBERS] = { "doubles of rival", 5 },
+    [RIVAL_BYTES] = { "bytes of rival", 3 },
+    [RIVAL_SHAPE] = { "shape of rival", 3 },
+    [RIVAL_COUNTS] = { "length of the samples and index of rival", 2 },
+    [RIVALRY_COUNTS] = { "place and chosen of the rivalry", 2 },
+    [RIVALRY_VALUES] = { "value and best of the rivalry", 2 },
     [FORWARD_NUMBERS] = { "doubles of forward", 5 },
     [FORWARD_SHAPE] = { "shape of forward", 3 },
     [BACKWARD_NUMBERS] = { "doubles of backward", 5 },
@@ -64,6 +70,37 @@ static const char *const WAY_OUT[WAYS_OUT] = {
 static uint8_t flag_of(uint8_t ends) {
     return way_out == LEFT_OUT ? 0 : way_out == ALWAYS_ADDED ? 1 : way_out == LOWEST_BIT ? ends & 1 : ends;
 }
+
+/* What is wrong with the rival in the face that is tried. */
+static enum rivalling {
+    TRUE_RIVALLING, INDEX_FROM_ONE, INDEX_IGNORED, HALF_AN_INDEX, PLACE_OF_INDEX, INDEX_FIRST, INDEX_LAST, NO_SAMPLES_REFUSED,
+    NUMBERS_EXCHANGED, NO_RIVAL_DONE, CHOSEN_OF_NO_RIVAL, BEST_OF_NO_RIVAL, CLEARED_PATH, MARGIN_AS_VALUE, CHOSEN_OF_RIVAL, BEST_AS_RIVAL,
+    ROWS_OF_BEST, SYMBOL_BARRED, ENDS_LEFT_OUT, ENDS_BY_LOWEST_BIT, RIVAL_LEFT_OUT, ADDED_TO_RIVAL, ADDED_TO_BEST, RIVALLINGS
+} rivalling;
+static const char *const RIVALLING[RIVALLINGS] = {
+    [INDEX_FROM_ONE] = "the index counts from 1",
+    [INDEX_IGNORED] = "the index is taken for 0 where it is good",
+    [HALF_AN_INDEX] = "the index is taken for its lowest 32 bits",
+    [PLACE_OF_INDEX] = "the place of 16 is the index",
+    [INDEX_FIRST] = "16 is given before 8",
+    [INDEX_LAST] = "16 is given after 15",
+    [NO_SAMPLES_REFUSED] = "no samples are refused with 4",
+    [NUMBERS_EXCHANGED] = "15 and 16 are exchanged",
+    [NO_RIVAL_DONE] = "done with minus infinity for 15",
+    [CHOSEN_OF_NO_RIVAL] = "15 gives the chosen state",
+    [BEST_OF_NO_RIVAL] = "15 gives the best path's score",
+    [CLEARED_PATH] = "15 clears the first state of the rival's path",
+    [MARGIN_AS_VALUE] = "the value is the margin",
+    [CHOSEN_OF_RIVAL] = "the chosen state is the rival's",
+    [BEST_AS_RIVAL] = "the rival's path is the best one",
+    [ROWS_OF_BEST] = "the rows are those of the best path's walk",
+    [SYMBOL_BARRED] = "the chosen state is barred wherever the symbol comes",
+    [ENDS_LEFT_OUT] = "rival leaves the end table out",
+    [ENDS_BY_LOWEST_BIT] = "rival takes the lowest bit for the end flag",
+    [RIVAL_LEFT_OUT] = "the end table is left out of the rival's score alone",
+    [ADDED_TO_RIVAL] = "+0.0 is added to the rival's score",
+    [ADDED_TO_BEST] = "+0.0 is added to the score of the best path beside the rival",
+};
 
 /* What is wrong with a model file in the face that is tried. */
 static enum filing {
@@ -130,6 +167,9 @@ struct bytes {
 #define MODEL wasnugram_shape shape, MODEL_TABLE_LIST, uint16_t *samples, size_t samples_length
 #define MODEL_TABLES { transition, transition_length }, { emission, emission_length }, { initial, initial_length }, { end, end_length }
 #define PATH MODEL, uint8_t *path, size_t path_length, double *values, size_t values_length, uint8_t *from, size_t from_length
+#define RIVAL                                                                                                                \
+    MODEL, size_t index, uint8_t *path, size_t path_length, uint8_t *rival_path, size_t rival_path_length, double *values,   \
+        size_t values_length, uint8_t *from, size_t from_length
 #define WALK MODEL, double *values, size_t values_length
 #define PASS                                                                                                                 \
     MODEL, double *new_transition, size_t new_transition_length, double *new_emission, size_t new_emission_length,           \
@@ -141,6 +181,7 @@ struct bytes {
 
 wasnugram_answer __real_wasnugram_viterbi(PATH), __real_wasnugram_forward(WALK), __real_wasnugram_backward(WALK);
 wasnugram_answer __real_wasnugram_baum_welch(PASS), __real_wasnugram_ln_cumsum_exp(CUMSUM), __real_wasnugram_ln_sum_exp(double *, size_t);
+wasnugram_rivalry __real_wasnugram_rival(RIVAL);
 wasnugram_reading __real_wasnugram_read_model(READ);
 wasnugram_answer __real_wasnugram_write_model(WRITE);
 size_t __real_wasnugram_model_file_length(wasnugram_shape);
@@ -171,6 +212,126 @@ wasnugram_answer __wrap_wasnugram_viterbi(PATH) {
         a = viterbi(shape, n, b, samples, samples_length);
     }
     return answer_of(a);
+}
+
+static wasnugram_rivalry rivalry_of(wasnugram_rivalry r) {
+    size_t counts[] = { r.answer.place, r.chosen };
+    double numbers[] = { r.answer.value, r.best };
+    wasnugram_answer a = { r.answer.refusal, r.answer.table, counts[place(RIVALRY_COUNTS, 0)], numbers[place(RIVALRY_VALUES, 0)] };
+    return (wasnugram_rivalry){ answer_of(a), counts[place(RIVALRY_COUNTS, 1)], numbers[place(RIVALRY_VALUES, 1)] };
+}
+
+/* What is lent to the rival: its doubles, its bytes (the best path, the rival's, the predecessors), its samples. */
+struct rival_lent {
+    wasnugram_shape shape;
+    struct numbers n[5];
+    struct bytes b[3];
+    uint16_t *samples;
+    size_t samples_length;
+};
+
+static wasnugram_rivalry rival(struct rival_lent *l, size_t index) {
+    const struct numbers *n = l->n;
+    const struct bytes *b = l->b;
+    size_t counts[] = { l->samples_length, index };
+    return __real_wasnugram_rival(shape_of(RIVAL_SHAPE, l->shape), TABLES(n, RIVAL_NUMBERS), l->samples, counts[place(RIVAL_COUNTS, 0)],
+                                  counts[place(RIVAL_COUNTS, 1)], LENT(b, RIVAL_BYTES, 0), LENT(b, RIVAL_BYTES, 1),
+                                  LENT(n, RIVAL_NUMBERS, 4), LENT(b, RIVAL_BYTES, 2));
+}
+
+/* The index, in the faces that take it for another one. */
+static size_t index_of(size_t index, size_t samples_length) {
+    if (rivalling == INDEX_FROM_ONE) return index - 1;
+    if (rivalling == INDEX_IGNORED && index < samples_length) return 0;
+    return rivalling == HALF_AN_INDEX ? (uint32_t)index : index;
+}
+
+/* The best path into this buffer, and its rows. */
+static wasnugram_answer walk(struct rival_lent *l, const struct bytes *path) {
+    const struct bytes b[] = { *path, l->b[2] };
+    return viterbi(l->shape, l->n, b, l->samples, l->samples_length);
+}
+
+/* The walk where the chosen state cannot emit the symbol of the index, at any sample. */
+static void bar_symbol(struct rival_lent *l, size_t index, wasnugram_rivalry *r) {
+    static double emission[256];
+    struct numbers *table = &l->n[WASNUGRAM_EMISSION], lent = *table;
+    memcpy(emission, lent.entries, lent.length * sizeof(double));
+    emission[r->chosen * l->shape.symbols + l->samples[index]] = -__builtin_inf();
+    table->entries = emission;
+    r->answer = walk(l, &l->b[1]);
+    *table = lent;
+}
+
+/* The rival of the model without its end state. */
+static void leave_ends_out(struct rival_lent *l, size_t index, wasnugram_rivalry *r) {
+    static double zeros[WASNUGRAM_MOST_STATES];
+    l->shape.ends = 0;
+    l->n[WASNUGRAM_END].entries = zeros;
+    *r = rival(l, index);
+}
+
+/* What a rival that is done gives, in the faces that end its path or the best one in a wrong way. */
+static void rival_ended(struct rival_lent *l, size_t index, wasnugram_rivalry *r) {
+    size_t last = l->samples_length - 1;
+    int is_left_out = rivalling == ENDS_LEFT_OUT || (rivalling == ENDS_BY_LOWEST_BIT && l->shape.ends % 2 == 0);
+    if (is_left_out) leave_ends_out(l, index, r);
+    if (rivalling == RIVAL_LEFT_OUT) r->answer.value = l->n[4].entries[last * l->shape.states + l->b[1].entries[last]];
+    if (rivalling == ADDED_TO_RIVAL) r->answer.value += 0.0;
+    if (rivalling == ADDED_TO_BEST) r->best += 0.0;
+}
+
+/* What a rival that is done gives and writes, in the other faces where that is wrong. */
+static void rival_found(struct rival_lent *l, size_t index, wasnugram_rivalry *r) {
+    if (rivalling == MARGIN_AS_VALUE) r->answer.value = r->best - r->answer.value;
+    if (rivalling == CHOSEN_OF_RIVAL) r->chosen = l->b[1].entries[index];
+    if (rivalling == BEST_AS_RIVAL) memcpy(l->b[1].entries, l->b[0].entries, l->samples_length);
+    if (rivalling == ROWS_OF_BEST) walk(l, &l->b[0]);
+    if (rivalling == SYMBOL_BARRED) bar_symbol(l, index, r);
+    rival_ended(l, index, r);
+}
+
+/* The same with outputs of our own, so that what was lent stays as it is. */
+static struct rival_lent aside(struct rival_lent l) {
+    static double values[16];
+    static uint8_t bytes[3][16];
+    l.n[4] = (struct numbers){ values, 16 };
+    for (size_t i = 0; i < 3; i++) l.b[i] = (struct bytes){ bytes[i], 16 };
+    return l;
+}
+
+/* What is said where there is no rival, in the faces where that is wrong. */
+static void no_rival_found(struct rival_lent *l, size_t index, wasnugram_rivalry *r) {
+    struct rival_lent own = aside(*l);
+    double best = walk(&own, &own.b[0]).value;
+    if (rivalling == NO_RIVAL_DONE) r->answer.refusal = WASNUGRAM_DONE;
+    if (rivalling == CHOSEN_OF_NO_RIVAL) r->chosen = own.b[0].entries[index];
+    if (rivalling == BEST_OF_NO_RIVAL) r->best = best;
+    if (rivalling == CLEARED_PATH) l->b[1].entries[0] = 0;
+}
+
+/* The refusals, in the faces that give others or in another order. */
+static void rival_refused(struct rival_lent *l, size_t index, wasnugram_rivalry *r) {
+    struct rival_lent own = aside(*l);
+    uint8_t *refusal = &r->answer.refusal;
+    int is_bad = index >= l->samples_length, is_15 = *refusal == WASNUGRAM_NO_RIVAL, is_16 = *refusal == WASNUGRAM_BAD_INDEX;
+    if (rivalling == PLACE_OF_INDEX && is_16) r->answer.place = index;
+    if (rivalling == INDEX_FIRST && *refusal == WASNUGRAM_UNKNOWN_SYMBOL && is_bad) {
+        r->answer = (wasnugram_answer){ WASNUGRAM_BAD_INDEX, 0, 0, r->answer.value };
+    }
+    if (rivalling == INDEX_LAST && is_16 && l->samples_length && rival(&own, 0).answer.refusal) *refusal = WASNUGRAM_NO_RIVAL;
+    if (rivalling == NO_SAMPLES_REFUSED && is_16 && !l->samples_length) *refusal = WASNUGRAM_NO_SAMPLES;
+    if (rivalling == NUMBERS_EXCHANGED && (is_15 || is_16)) *refusal = is_15 ? WASNUGRAM_BAD_INDEX : WASNUGRAM_NO_RIVAL;
+}
+
+wasnugram_rivalry __wrap_wasnugram_rival(RIVAL) {
+    struct rival_lent l = { shape, { MODEL_TABLES, { values, values_length } },
+                            { { path, path_length }, { rival_path, rival_path_length }, { from, from_length } }, samples, samples_length };
+    wasnugram_rivalry r = rival(&l, index_of(index, samples_length));
+    if (r.answer.refusal == WASNUGRAM_DONE) rival_found(&l, index, &r);
+    else if (r.answer.refusal == WASNUGRAM_NO_RIVAL) no_rival_found(&l, index, &r);
+    rival_refused(&l, index, &r);
+    return rivalry_of(r);
 }
 
 wasnugram_answer __wrap_wasnugram_forward(WALK) {
@@ -320,6 +481,13 @@ static void try_ways_out(void) {
     way_out = RIGHT;
 }
 
+static void try_rivallings(void) {
+    for (rivalling = TRUE_RIVALLING + 1; rivalling < RIVALLINGS; rivalling++) {
+        if (is_unseen()) printf("a wrong face is not seen: %s\n", RIVALLING[rivalling]);
+    }
+    rivalling = TRUE_RIVALLING;
+}
+
 static void try_filings(void) {
     for (filing = TRUE_FILING + 1; filing < FILINGS; filing++) {
         if (is_unseen()) printf("a wrong face is not seen: %s\n", FILING[filing]);
@@ -333,6 +501,7 @@ int main(void) {
         return 1;
     }
     try_ways_out();
+    try_rivallings();
     try_filings();
     for (enum group group = 0; group < GROUPS; group++) try_group(group);
     printf("%zu wrong faces tried, %zu not seen\n", tried, unseen);

@@ -11,10 +11,10 @@
 #include "wasnugram.h"
 
 enum { MOST_LISTS = 12, ALTERED = 64, ANSWER = 1, FIRST_LIST = 5 };
-enum { READ_MODEL = 18, WRITE_MODEL = 19, FILE_LENGTH = 20 };
+enum { READ_MODEL = 18, WRITE_MODEL = 19, FILE_LENGTH = 20, RIVAL = 21 };
 
-/* The calls by number, without a name where the face does not have one, and their lists: w a shape, n doubles, s samples, b bytes; inputs,
- * then outputs. */
+/* The calls by number, without a name where the face does not have one, and their lists: w words of what is no lent memory (a shape, an
+ * index, what is given beside an answer), n doubles, s samples, b bytes; inputs, then outputs. */
 static const struct {
     const char *name, *inputs, *outputs;
 } CALLS[] = {
@@ -33,6 +33,7 @@ static const struct {
     [READ_MODEL] = { "read_model", "b", "wnnnn" },
     [WRITE_MODEL] = { "write_model", "wnnnn", "b" },
     [FILE_LENGTH] = { "file_length", "w", "" },
+    [RIVAL] = { "rival", "wnnnnsw", "wbbnb" },
 };
 enum { FROZEN_CALLS = sizeof CALLS / sizeof CALLS[0] };
 
@@ -102,6 +103,15 @@ static wasnugram_answer read_model(void) {
     return r.answer;
 }
 
+/* The rival at an index: the chosen state and the best path's score are an output of two words. */
+static wasnugram_answer rival(wasnugram_shape shape) {
+    if (lists[6].length != 1 || lists[7].length != 2) not_whole();
+    wasnugram_rivalry r = wasnugram_rival(MODEL, (size_t)lists[6].words[0], LENT(8), LENT(9), LENT(10), LENT(11));
+    memcpy(lists[7].lent, (uint64_t[]){ r.chosen, 0 }, 2 * sizeof(uint64_t));
+    memcpy((uint64_t *)lists[7].lent + 1, &r.best, sizeof r.best);
+    return r.answer;
+}
+
 /* The length of a model file, which is the value of its case. */
 static wasnugram_answer file_length(wasnugram_shape shape) {
     return (wasnugram_answer){ WASNUGRAM_DONE, 0, 0, (double)wasnugram_model_file_length(shape) };
@@ -114,6 +124,7 @@ static wasnugram_answer call_on_model(size_t call) {
     switch (call) {
     case WRITE_MODEL: return wasnugram_write_model(shape, TABLES, LENT(5));
     case FILE_LENGTH: return file_length(shape);
+    case RIVAL: return rival(shape);
     case 0: return wasnugram_viterbi(MODEL, LENT(6), LENT(7), LENT(8));
     case 1: return wasnugram_forward(MODEL, LENT(6));
     case 2: return wasnugram_backward(MODEL, LENT(6));

@@ -25,7 +25,7 @@ static double transition[STATES * STATES], emission[STATES * SYMBOLS], initial[S
 static double new_transition[STATES * STATES], new_emission[STATES * SYMBOLS], new_initial[STATES], new_end[STATES];
 static double alpha[SAMPLES * STATES], beta[SAMPLES * STATES];
 static uint16_t samples[SAMPLES];
-static uint8_t path[SAMPLES], from[SAMPLES * STATES], file[WASNUGRAM_MODEL_FILE(STATES, SYMBOLS, 0)];
+static uint8_t path[SAMPLES], rival_path[SAMPLES], from[SAMPLES * STATES], file[WASNUGRAM_MODEL_FILE(STATES, SYMBOLS, 0)];
 static wasnugram_answer answer;
 
 /* Four tables of a model, each with its length; and the model's own with the samples. */
@@ -39,6 +39,11 @@ static void nothing(void) {}
 static void viterbi(void) {
     size_t cells = shape.states * samples_length;
     answer = wasnugram_viterbi(MODEL, path, samples_length, alpha, cells, from, cells);
+}
+
+static void rival(void) {
+    size_t cells = shape.states * samples_length, index = samples_length / 2;
+    answer = wasnugram_rival(MODEL, index, path, samples_length, rival_path, samples_length, alpha, cells, from, cells).answer;
 }
 
 static void forward(void) {
@@ -81,6 +86,7 @@ static const struct {
 } CALLS[] = {
     { "nothing", nothing },
     { "`viterbi`", viterbi },
+    { "`rival`", rival },
     { "`forward`", forward },
     { "`backward`", backward },
     { "`baum_welch`", baum_welch },

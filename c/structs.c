@@ -10,7 +10,7 @@ struct slice {
 };
 
 static struct slice noted[MOST];
-static size_t noted_length;
+static size_t noted_length, noted_index;
 static wasnugram_shape noted_shape;
 static const wasnugram_answer ANSWER = { WASNUGRAM_ZERO_MASS, 1, 2, 3 };
 
@@ -32,6 +32,15 @@ wasnugram_answer wasnugram_viterbi(
     MODEL, uint8_t *path, size_t path_length, double *values, size_t values_length, uint8_t *from, size_t from_length) {
     struct slice slices[] = { MODEL_SLICES, { path, path_length }, { values, values_length }, { from, from_length } };
     return note(shape, slices, sizeof slices / sizeof slices[0]);
+}
+
+wasnugram_rivalry wasnugram_rival(
+    MODEL, size_t index, uint8_t *path, size_t path_length, uint8_t *rival_path, size_t rival_path_length,
+    double *values, size_t values_length, uint8_t *from, size_t from_length) {
+    struct slice slices[] = { MODEL_SLICES, { path, path_length }, { rival_path, rival_path_length }, { values, values_length },
+                              { from, from_length } };
+    noted_index = index;
+    return (wasnugram_rivalry){ note(shape, slices, sizeof slices / sizeof slices[0]), 4, 5 };
 }
 
 wasnugram_answer wasnugram_forward(MODEL, double *values, size_t values_length) {
@@ -73,7 +82,7 @@ wasnugram_reading wasnugram_read_model(
 
 /* Only their addresses matter. */
 static double table[4], number[6];
-static uint8_t byte[2];
+static uint8_t byte[3];
 static uint16_t samples[T];
 static const wasnugram_model model = { { S, M, 1 }, &table[0], &table[1], &table[2], &table[3] };
 
@@ -100,6 +109,14 @@ static int lends(wasnugram_answer a, const void *lent_samples, size_t samples_le
     return so && noted_length == 5 + length;
 }
 
+/* Whether the model, the samples, the outputs and the index are lent to the rival, and all that it gives is handed on. */
+static int lends_to_rival(size_t index) {
+    const wasnugram_rival_outputs outputs = { ROOM, &byte[0], &byte[1], &number[0], &byte[2] };
+    const struct slice slices[] = { { &byte[0], ROOM }, { &byte[1], ROOM }, { &number[0], S * ROOM }, { &byte[2], S * ROOM } };
+    wasnugram_rivalry r = wasnugram_rival_of(&model, samples, T, index, &outputs);
+    return lends(r.answer, samples, T, slices, 4) && noted_index == index && r.chosen == 4 && r.best == 5;
+}
+
 /* Whether the room and the file are lent to the reader, and the model is in the room where that is done and as it was where it is not. */
 static int reads(wasnugram_shape shape) {
     const wasnugram_model_room room = { S, M, &number[0], &number[1], &number[2], &number[3] };
@@ -123,6 +140,7 @@ int main(void) {
                                          { &number[4], S * ROOM }, { &number[5], S * ROOM } };
     int so = lends(wasnugram_viterbi_of(&model, samples, T, &path), samples, T, path_slices, 3);
     so &= lends(wasnugram_check_of(&model), NULL, 0, none, 3);
+    so &= lends_to_rival(0) && lends_to_rival(T);
     so &= lends(wasnugram_forward_of(&model, samples, T, &values), samples, T, &path_slices[1], 1);
     so &= lends(wasnugram_backward_of(&model, samples, T, &values), samples, T, &path_slices[1], 1);
     so &= lends(wasnugram_baum_welch_of(&model, samples, T, &pass), samples, T, pass_slices, 6);

@@ -37,7 +37,8 @@
  *
  * Answers. `refusal` is WASNUGRAM_DONE, or it says what is wrong; then `table` and `place` say where, `value` is minus infinity, and
  * nothing that was lent has changed (WASNUGRAM_ZERO_MASS clears scratch). Checks run in the order of their numbers, tables and outputs
- * by number, places upward; the first fault answers. The reader alone has another order, since it looks at the whole file first.
+ * by number, places upward; the first fault answers. Two calls have another order: the reader looks at the whole file first, and
+ * wasnugram_rival looks at the index (16) before it looks for a rival (15).
  *
  * DONE WITH MINUS INFINITY MEANS THAT NO PATH EXPLAINS THE SAMPLES, the way out included where there is an end state. The path that was
  * written means nothing then: charge no fare from it. Ask wasnugram_is_possible before you use a path.
@@ -172,6 +173,53 @@
  *     value -7, last state 1
  *     the model file is damaged: refusal 14, table 1, place 0
  *     the model file is damaged: refusal 13, table 0, place 12
+ *
+ * Example 4. Someone at the gate asks "why not child?" of a passage that was taken for an adult's. Symbol 2 is one that no child gives:
+ *
+ *     #include <math.h>
+ *     #include <stdio.h>
+ *     #include "wasnugram.h"
+ *
+ *     enum { S = 2, M = 3, T = 3 };
+ *     static const char *const name[S] = { "adult", "child" };
+ *     static const double transition[WASNUGRAM_MODEL_TRANSITION(S)] = { -0.1, -2.5, -2.5, -0.1 };
+ *     static const double emission[WASNUGRAM_MODEL_EMISSION(S, M)] = { -0.5, -1, -4, -0.8, -0.32, -INFINITY };
+ *     static const double initial[WASNUGRAM_MODEL_INITIAL(S)] = { -0.5, -1 };
+ *     static const double end[WASNUGRAM_MODEL_END(S)] = { 0, 0 };
+ *     static const wasnugram_model model = { { S, M, 0 }, transition, emission, initial, end };
+ *
+ *     static uint8_t path[WASNUGRAM_RIVAL_PATH(T)], rival_path[WASNUGRAM_RIVAL_RIVAL_PATH(T)], from[WASNUGRAM_RIVAL_FROM(S, T)];
+ *     static double values[WASNUGRAM_RIVAL_VALUES(S, T)];
+ *     static const wasnugram_rival_outputs outputs = { T, path, rival_path, values, from };
+ *
+ *     static void explain(const uint16_t *samples, size_t index) {
+ *         wasnugram_rivalry r = wasnugram_rival_of(&model, samples, T, index, &outputs);
+ *         if (r.answer.refusal == WASNUGRAM_NO_RIVAL) {
+ *             printf("sample %zu: every path with another state there is impossible\n", index);
+ *         } else if (r.answer.refusal != WASNUGRAM_DONE) {
+ *             printf("sample %zu: refusal %d\n", index, r.answer.refusal);
+ *         } else {
+ *             double margin = r.best - r.answer.value, times = 1 / wasnugram_exp(-margin).value;
+ *             printf("sample %zu: %s, not %s: margin %.2f, ", index, name[r.chosen], name[rival_path[index]], margin);
+ *             printf("%.2f times as likely\n", times);
+ *         }
+ *     }
+ *
+ *     int main(void) {
+ *         const uint16_t doubtful[T] = { 0, 1, 0 }, plain[T] = { 0, 2, 0 };
+ *         explain(doubtful, 1);
+ *         explain(plain, 0);
+ *         explain(plain, 1);
+ *         explain(plain, T);
+ *         return 0;
+ *     }
+ *
+ * It prints:
+ *
+ *     sample 1: adult, not child: margin 0.42, 1.52 times as likely
+ *     sample 0: adult, not child: margin 3.20, 24.53 times as likely
+ *     sample 1: every path with another state there is impossible
+ *     sample 3: refusal 16
  */
 #ifndef WASNUGRAM_H
 #define WASNUGRAM_H
@@ -210,6 +258,10 @@ extern "C" {
 #define WASNUGRAM_VITERBI_PATH(T) ((size_t)(T))
 #define WASNUGRAM_VITERBI_VALUES(S, T) ((size_t)(S) * (size_t)(T))
 #define WASNUGRAM_VITERBI_FROM(S, T) ((size_t)(S) * (size_t)(T))
+#define WASNUGRAM_RIVAL_PATH(T) ((size_t)(T))
+#define WASNUGRAM_RIVAL_RIVAL_PATH(T) ((size_t)(T))
+#define WASNUGRAM_RIVAL_VALUES(S, T) ((size_t)(S) * (size_t)(T))
+#define WASNUGRAM_RIVAL_FROM(S, T) ((size_t)(S) * (size_t)(T))
 #define WASNUGRAM_FORWARD_VALUES(S, T) ((size_t)(S) * (size_t)(T))
 #define WASNUGRAM_BACKWARD_VALUES(S, T) ((size_t)(S) * (size_t)(T))
 #define WASNUGRAM_BAUM_WELCH_NEW_TRANSITION(S) WASNUGRAM_MODEL_TRANSITION(S)
@@ -237,7 +289,9 @@ typedef enum {
     WASNUGRAM_NEGATIVE_DIFFERENCE = 10, /* wasnugram_ln_sub_exp with p0 < p1 */
     WASNUGRAM_OVERSHOOT = 11,           /* wasnugram_cap_numerical_overshoot: above 0 by more than epsilon, or a NaN */
     WASNUGRAM_BAD_LAYOUT = 13,          /* no model file: place the first wrong byte, or the shorter length if the length is wrong */
-    WASNUGRAM_BAD_SUM = 14              /* a body of a model file has another sum than the file says: its table, place 0 */
+    WASNUGRAM_BAD_SUM = 14,             /* a body of a model file has another sum than the file says: its table, place 0 */
+    WASNUGRAM_NO_RIVAL = 15,            /* every path with another state at the index scores minus infinity */
+    WASNUGRAM_BAD_INDEX = 16            /* the index is T or more */
 } wasnugram_refusal;
 
 /* What an answer's `table` says of a call on a model: these, or an output's number, from 5. */
@@ -267,6 +321,13 @@ typedef struct {
     wasnugram_answer answer;
     wasnugram_shape shape; /* the shape of the model that was read; where the reader refuses, 0 states, 0 symbols and no end state */
 } wasnugram_reading;
+
+/* What wasnugram_rival gives. */
+typedef struct {
+    wasnugram_answer answer; /* its value is the rival's score */
+    size_t chosen;           /* the state of the best path at the index; 0 where the call is refused */
+    double best;             /* the best path's score; minus infinity where the call is refused */
+} wasnugram_rivalry;
 
 /* Whether a call is done and its value is above minus infinity: only then does a path explain the samples. It looks at the value's bits,
  * so that -ffast-math in the code that asks does not mislead it. */
@@ -302,6 +363,44 @@ wasnugram_answer wasnugram_viterbi(
     const double *end, size_t end_length,
     const uint16_t *samples, size_t samples_length,
     uint8_t *path, size_t path_length,
+    double *values, size_t values_length,
+    uint8_t *from, size_t from_length);
+
+/* The strongest rival of the best path at one sample: the best of the paths that have another state there than the best path has, which is
+ * the chosen state. It is for the person at the gate who asks "why not child?" of a passage that was decoded: ask then, and not for every
+ * passage, since it takes about as long as four calls of wasnugram_viterbi. `index` says which sample and counts from 0. Writes, all
+ * lengths in entries and not in bytes:
+ *
+ *   output 5  path        T      the best path, as wasnugram_viterbi writes it: path[index] is the chosen state
+ *   output 6  rival_path  T      the rival: rival_path[index] is another state
+ *   output 7  values      T*S    entry t*S + j: the value of state j at sample t on the rival's walk
+ *   output 8  from        T*S    entry t*S + j: the state before it on the best way there; state j itself in the first row
+ *
+ * The rival's walk is the one of wasnugram_viterbi where the chosen state cannot emit at the index: its emission there, and nowhere else,
+ * is taken for minus infinity. So the rows before the index are those of the best path's walk, and the chosen state's value at the index
+ * is minus infinity. `best` is the best path's score and the answer's value is the rival's, each as wasnugram_viterbi works it out, the
+ * end entry included where there is an end state. No path with another state at the index scores higher than the rival.
+ *
+ * Margin. best - answer.value is a difference of log-probabilities, at least 0. A margin of 0.42 says that the best path is
+ * exp(0.42) = 1.52 times as likely as the rival, under the model; it does not say that the model is right. A margin of 0 is a tie. The
+ * margin at each sample of a passage takes a call for each.
+ *
+ * Ties. Both paths follow the rule of wasnugram_viterbi, the rival's among the states that are left.
+ *
+ * Once checks 1 to 8 are passed, an index of T or more is refused with 16, and so is every index where there are no samples. Last comes
+ * 15: every path with another state at the index scores minus infinity. A model of one state is always refused so, and so are samples that
+ * no path explains; wasnugram_viterbi tells these from a state that has no rival. 15 too leaves all that was lent as it was. A call that is
+ * done has a value above minus infinity. */
+wasnugram_rivalry wasnugram_rival(
+    wasnugram_shape shape,
+    const double *transition, size_t transition_length,
+    const double *emission, size_t emission_length,
+    const double *initial, size_t initial_length,
+    const double *end, size_t end_length,
+    const uint16_t *samples, size_t samples_length,
+    size_t index,
+    uint8_t *path, size_t path_length,
+    uint8_t *rival_path, size_t rival_path_length,
     double *values, size_t values_length,
     uint8_t *from, size_t from_length);
 
@@ -442,6 +541,14 @@ typedef struct {
     uint8_t *from;  /* WASNUGRAM_VITERBI_FROM(states, room) entries */
 } wasnugram_viterbi_outputs;
 
+typedef struct {
+    size_t room;         /* in samples */
+    uint8_t *path;       /* WASNUGRAM_RIVAL_PATH(room) entries */
+    uint8_t *rival_path; /* WASNUGRAM_RIVAL_RIVAL_PATH(room) entries */
+    double *values;      /* WASNUGRAM_RIVAL_VALUES(states, room) entries */
+    uint8_t *from;       /* WASNUGRAM_RIVAL_FROM(states, room) entries */
+} wasnugram_rival_outputs;
+
 /* The output of forward or backward. */
 typedef struct {
     size_t room;    /* in samples */
@@ -479,6 +586,24 @@ static inline wasnugram_answer wasnugram_viterbi_of(
 static inline wasnugram_answer wasnugram_check_of(const wasnugram_model *model) {
     wasnugram_viterbi_outputs none = { 0, NULL, NULL, NULL };
     return wasnugram_viterbi_of(model, NULL, 0, &none);
+}
+
+/* wasnugram_rival on a model, at the sample of this index, which counts from 0. samples_length counts entries, not bytes. */
+static inline wasnugram_rivalry wasnugram_rival_of(
+    const wasnugram_model *model, const uint16_t *samples, size_t samples_length, size_t index, const wasnugram_rival_outputs *outputs) {
+    size_t states = model->shape.states, room = outputs->room;
+    return wasnugram_rival(
+        model->shape,
+        model->transition, WASNUGRAM_MODEL_TRANSITION(states),
+        model->emission, WASNUGRAM_MODEL_EMISSION(states, model->shape.symbols),
+        model->initial, WASNUGRAM_MODEL_INITIAL(states),
+        model->end, WASNUGRAM_MODEL_END(states),
+        samples, samples_length,
+        index,
+        outputs->path, WASNUGRAM_RIVAL_PATH(room),
+        outputs->rival_path, WASNUGRAM_RIVAL_RIVAL_PATH(room),
+        outputs->values, WASNUGRAM_RIVAL_VALUES(states, room),
+        outputs->from, WASNUGRAM_RIVAL_FROM(states, room));
 }
 
 /* wasnugram_forward on a model. samples_length counts entries, not bytes. */
