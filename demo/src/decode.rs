@@ -9,6 +9,7 @@ use wasnugram::{viterbi, Refused};
 #[derive(Clone, PartialEq)]
 pub struct Lent {
     pub path: Vec<u8>,
+    pub rival_path: Vec<u8>,
     pub values: Vec<f64>,
     pub from: Vec<u8>,
 }
@@ -18,6 +19,7 @@ impl Lent {
     pub fn filled(with: u8) -> Lent {
         Lent {
             path: vec![with; LONGEST],
+            rival_path: vec![with; LONGEST],
             values: vec![f64::from(with); SHAPE.cells(LONGEST)],
             from: vec![with; SHAPE.cells(LONGEST)],
         }

@@ -15,6 +15,7 @@ pub mod picture;
 pub mod random;
 pub mod recording;
 pub mod report;
+pub mod rivals;
 pub mod simulation;
 pub mod states;
 pub mod stored;

@@ -1,16 +1,26 @@
-//! A morning from the recording to its fares: every passage decoded by the stored model, and what a flipped bit does to
-//! its file and to its tables.
+//! A morning from the recording to its fares: every passage decoded by the stored model, its rivals, and what a flipped
+//! bit does to the model's file and to its tables.
 
 use crate::decode::{decode, fares, Decoded, Lent};
 use crate::file_flip::Refusals;
 use crate::flip::{every_flip, Flip, Outcome, Tally};
+use crate::model::Tables;
 use crate::recording::{caption, read, Passage};
+use crate::rivals::Rivals;
 use crate::states::Fare;
 use crate::stored::Stored;
+use wasnugram::Refused;
+
+/// A passage, the row of states that explains it, and the rivals of that row.
+pub struct Explained {
+    pub passage: Passage,
+    pub decoded: Decoded,
+    pub rivals: Rivals,
+}
 
 pub struct Morning {
     pub caption: String,
-    pub passages: Vec<(Passage, Decoded)>,
+    pub passages: Vec<Explained>,
     pub flip: Flip,
     /// What comes of that flip in the model file.
     pub in_file: Outcome,
@@ -22,6 +32,18 @@ pub struct Morning {
     pub tally: Tally,
 }
 
+impl Explained {
+    fn of(tables: &Tables, passage: Passage, lent: &mut Lent) -> Result<Explained, Refused> {
+        let decoded = decode(tables, &passage.samples, lent)?;
+        let rivals = Rivals::of(tables, &passage.samples, &decoded, lent)?;
+        Ok(Explained {
+            passage,
+            decoded,
+            rivals,
+        })
+    }
+}
+
 impl Morning {
     /// Decodes a recording; else says which line of it is wrong.
     pub fn of(recording: &str, stored: &Stored) -> Result<Morning, String> {
@@ -29,11 +51,11 @@ impl Morning {
         let mut lent = Lent::filled(0);
         let mut passages = Vec::new();
         for passage in read(recording)? {
-            let decoded = decode(tables, &passage.samples, &mut lent).map_err(|refused| refused.to_string())?;
-            passages.push((passage, decoded));
+            let explained = Explained::of(tables, passage, &mut lent);
+            passages.push(explained.map_err(|refused| refused.to_string())?);
         }
         let flip = Flip::shown();
-        let samples = passages.first().map_or(&[][..], |(passage, _)| &passage.samples);
+        let samples = passages.first().map_or(&[][..], |first| &first.passage.samples);
         Ok(Morning {
             caption: caption(recording).to_string(),
             in_file: flip.tried_in_file(stored),
@@ -49,7 +71,7 @@ impl Morning {
     pub fn fares(&self) -> Vec<Fare> {
         self.passages
             .iter()
-            .flat_map(|(_, decoded)| fares(&decoded.row))
+            .flat_map(|explained| fares(&explained.decoded.row))
             .collect()
     }
 }

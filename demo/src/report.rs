@@ -4,15 +4,22 @@ use crate::decode::{fares, Decoded};
 use crate::exit_lane::{Exit, ExitLane};
 use crate::file_flip::{FileFlip, Refusals};
 use crate::flip::{Flip, Outcome, Tally};
-use crate::morning::Morning;
+use crate::morning::{Explained, Morning};
 use crate::recording::Passage;
+use crate::rivals::Rivals;
 use crate::states::{Fare, FARES, STATES, SYMBOLS};
 use crate::words;
 
+/// What the words before a passage's rivals mean.
+const RIVAL: &str = "rival: the best row of states with another state at a sample; \
+                     here the closest of all samples, which count from 0";
+const NEARLY: &str = "nearly: the closest rival that pays another fare; \
+                      a row of another fare that is the rival at no sample is not seen";
+
 pub fn report(morning: &Morning) -> String {
     let mut lines = heading(morning);
-    for (at, (recorded, decoded)) in morning.passages.iter().enumerate() {
-        lines.extend(passage(at + 1, recorded, decoded));
+    for (at, explained) in morning.passages.iter().enumerate() {
+        lines.extend(passage(at + 1, explained));
     }
     lines.extend(takings(&morning.fares()));
     lines.extend(flip(morning.flip, &morning.in_file));
@@ -39,11 +46,19 @@ fn heading(morning: &Morning) -> Vec<String> {
         morning.caption.clone(),
         format!("passages: {count}; eight light barriers, one byte every 25 ms; {STATES} states, {SYMBOLS} symbols"),
         "every unbroken run of a body (child, adult, skier, rider, parent) pays one fare".to_string(),
+        RIVAL.to_string(),
+        format!("margin: the best row's value less the rival's; {}", words::MARGIN),
+        NEARLY.to_string(),
     ];
     lines.into_iter().filter(|line| !line.is_empty()).collect()
 }
 
-fn passage(number: usize, passage: &Passage, decoded: &Decoded) -> [String; 5] {
+fn passage(number: usize, explained: &Explained) -> [String; 7] {
+    let Explained {
+        passage,
+        decoded,
+        rivals,
+    } = explained;
     let length = passage.samples.len();
     [
         String::new(),
@@ -54,7 +69,31 @@ fn passage(number: usize, passage: &Passage, decoded: &Decoded) -> [String; 5] {
         states(decoded),
         format!("  fare    {}", words::fares(&fares(&decoded.row))),
         value(decoded),
+        format!("  rival   {}", rival(rivals)),
+        format!("  nearly  {}", nearly(rivals)),
     ]
+}
+
+/// The closest of all: which state it has there, and whether the fare is another.
+fn rival(rivals: &Rivals) -> String {
+    let Some(rival) = rivals.closest() else {
+        return "none: no other row explains the samples".to_string();
+    };
+    let fare = if rivals.pays_another_fare(rival) {
+        "another fare"
+    } else {
+        "the same fare"
+    };
+    format!("{}: {}; {fare}", words::in_place(rival), words::margin(rival))
+}
+
+/// The closest that pays another fare.
+fn nearly(rivals: &Rivals) -> String {
+    let Some(rival) = rivals.closest_of_another_fare() else {
+        return words::NOTHING_ELSE.to_string();
+    };
+    let fares = words::fares(&rival.fares());
+    format!("{fares}: {}; {}", words::margin(rival), words::in_place(rival))
 }
 
 fn states(decoded: &Decoded) -> String {

@@ -3,6 +3,7 @@
 use crate::decode::runs;
 use crate::flip::{Flip, Outcome};
 use crate::model::{columns, EMISSION, NAMES, TRANSITION};
+use crate::rivals::Rival;
 use crate::states::{Fare, ALL, BARRIERS, HEIGHTS};
 use wasnugram::Refusal;
 
@@ -27,6 +28,22 @@ pub fn fares(fares: &[Fare]) -> String {
     }
     let names: Vec<&str> = fares.iter().map(|fare| fare.name()).collect();
     names.join(" + ")
+}
+
+/// What a margin says: it is a difference of natural logarithms of probabilities.
+pub const MARGIN: &str = "at margin 0.42 the best row is e^0.42 = 1.52 times as likely as the rival, under this model";
+
+/// Where no rival pays another fare.
+pub const NOTHING_ELSE: &str = "nothing else: no rival pays another fare";
+
+/// How far a rival is behind, and at which sample. Samples are counted from 0.
+pub fn margin(rival: &Rival) -> String {
+    format!("margin {:.2} at sample {}", rival.margin, rival.sample)
+}
+
+/// A rival's state at its sample, and that of the best row.
+pub fn in_place(rival: &Rival) -> String {
+    format!("{}, not {}", ALL[rival.state()].name, ALL[rival.chosen].name)
 }
 
 /// A barrier by its number and its height above the ground.
@@ -144,6 +161,24 @@ mod tests {
         assert_eq!(row(&[0, 0, 4]), "empty×2 adult×1");
         assert_eq!(row(&[]), "none explains the samples");
         assert_eq!((last(&[0, 0, 4]), last(&[])), ("adult", "none"));
+    }
+
+    #[test]
+    fn a_rival_has_its_margin_its_sample_and_two_states() {
+        let rival = Rival {
+            sample: 2,
+            chosen: 3,
+            row: vec![0, 3, 4, 3],
+            margin: 0.4249,
+        };
+        assert_eq!(margin(&rival), "margin 0.42 at sample 2");
+        assert_eq!(in_place(&rival), "adult, not adult-step");
+    }
+
+    #[test]
+    fn a_margin_is_the_logarithm_of_a_ratio() {
+        let ratio = format!("at margin 0.42 the best row is e^0.42 = {:.2} times", 0.42_f64.exp());
+        assert!(MARGIN.starts_with(&ratio), "{ratio}");
     }
 
     #[test]

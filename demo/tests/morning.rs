@@ -36,24 +36,23 @@ fn the_report_is_the_stored_one() {
     assert_eq!(report(&morning()) + &exits(&exit_lane), include_str!("../stdout"));
 }
 
-/// The indented lines of the README's section on the demo are lines of the report.
+/// The indented lines of a page's section.
+fn quoted<'a>(page: &'a str, section: &str) -> Vec<&'a str> {
+    let (_, from_there) = page.split_once(&format!("## {section}\n")).unwrap();
+    let section = from_there.split("\n## ").next().unwrap();
+    section.lines().filter_map(|line| line.strip_prefix("    ")).collect()
+}
+
+/// What README.md quotes, and what the README of the demo does, are lines of the report.
 #[test]
-fn the_readme_quotes_the_report() {
-    let readme = include_str!("../../README.md");
-    let section = readme
-        .split("## The demo\n")
-        .nth(1)
-        .unwrap()
-        .split("\n## ")
-        .next()
-        .unwrap();
-    let quoted: Vec<&str> = section.lines().filter_map(|line| line.strip_prefix("    ")).collect();
-    assert!(quoted.len() > 4, "a passage and a refusal are quoted");
-    for line in quoted {
-        assert!(
-            include_str!("../stdout").lines().any(|printed| printed == line),
-            "{line}"
-        );
+fn the_readmes_quote_the_report() {
+    let whole = quoted(include_str!("../../README.md"), "The demo");
+    let rivals = quoted(include_str!("../README.md"), "Why not child?");
+    assert!(whole.len() > 4, "a passage and a refusal are quoted");
+    assert!(rivals.len() > 4, "a passage and its rivals are quoted");
+    for line in [whole, rivals].concat() {
+        let printed = include_str!("../stdout").lines().any(|printed| printed == line);
+        assert!(printed, "{line}");
     }
 }
 

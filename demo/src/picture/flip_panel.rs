@@ -1,14 +1,13 @@
 //! The refused flip: the entry's bits before and after, and the answer.
 
 use super::svg::{path, rectangle, text, Anchor};
+use super::RED;
 use crate::flip::Tally;
 use crate::morning::Morning;
 use crate::words;
 
 pub const HEIGHT: usize = 208;
 
-const RED: &str = "#c62828";
-const RING: &str = "fill=\"none\" stroke=\"#c62828\" stroke-width=\"3\"";
 const PITCH: usize = 10;
 const BITS: usize = 78;
 const READS: usize = 64 * PITCH + 40;
@@ -46,7 +45,8 @@ fn bits(left: usize, top: usize, name: &str, entry: f64, flipped: Option<u32>) -
         let chosen = (0..64).filter(|bit| entry.to_bits() >> bit & 1 == wanted);
         chosen.map(|bit| square(first, top, bit)).collect()
     };
-    let ring = flipped.map_or(String::new(), |bit| path(RING, &square(first, top, bit)));
+    let ring = format!("fill=\"none\" stroke=\"{RED}\" stroke-width=\"3\"");
+    let ring = flipped.map_or(String::new(), |bit| path(&ring, &square(first, top, bit)));
     [
         text(left, top + 14, "soft", Anchor::Start, name),
         path("fill=\"#1c2430\"", &squares(1)),

@@ -2,6 +2,7 @@
 
 mod flip_panel;
 mod legend;
+mod margin_band;
 mod passage_panel;
 mod svg;
 
@@ -11,8 +12,13 @@ use svg::{text, Anchor};
 const WIDTH: usize = 2 * MARGIN + COLUMN + passage_panel::WIDTH;
 const MARGIN: usize = 36;
 const LEGEND_TOP: usize = 134;
-const PASSAGES_TOP: usize = LEGEND_TOP + legend::HEIGHT + 34;
+const KEY_TOP: usize = LEGEND_TOP + legend::HEIGHT + 14;
+const PASSAGES_TOP: usize = KEY_TOP + margin_band::KEY_HEIGHT + 20;
 const COLUMN: usize = passage_panel::WIDTH + 32;
+
+/// What is wrong, or nearly so; and behind what is drawn over time.
+const RED: &str = "#c62828";
+const GROUND: &str = "#f1f3f5";
 
 const STYLE: &str = "\
 text{font-family:Helvetica,Arial,'DejaVu Sans',sans-serif;font-size:14px;fill:#1c2430}\
@@ -30,15 +36,17 @@ pub fn picture(morning: &Morning) -> String {
     let height = flip_top + flip_panel::HEIGHT + MARGIN;
     let mut body = heading(&morning.caption);
     body += &legend::legend(MARGIN, LEGEND_TOP);
-    for (at, (passage, decoded)) in morning.passages.iter().enumerate() {
+    body += &margin_band::key(MARGIN, KEY_TOP);
+    for (at, explained) in morning.passages.iter().enumerate() {
         let (left, top) = (
             MARGIN + at / rows * COLUMN,
             PASSAGES_TOP + at % rows * passage_panel::PITCH,
         );
-        body += &passage_panel::panel(left, top, at + 1, passage, decoded);
+        body += &passage_panel::panel(left, top, at + 1, explained);
     }
     body += &flip_panel::panel(MARGIN, flip_top, WIDTH - 2 * MARGIN, morning);
-    svg::page(WIDTH, height, STYLE, &body)
+    let style = format!("{STYLE}.near{{font-size:12px;fill:{RED}}}");
+    svg::page(WIDTH, height, &style, &body)
 }
 
 fn heading(caption: &str) -> String {
