@@ -1,4 +1,4 @@
-//! The strongest rival: the best path by RULES 6.1 among those with another state at one sample than the best of all.
+//! The strongest rival (RULES 6.4): the best path among those with another state at one sample than the best of all.
 
 use crate::answer::{Answer, BAD_INDEX, NO_RIVAL};
 use crate::model::{check, Empty, Model, Output, Shape};

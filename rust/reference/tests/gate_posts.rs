@@ -1,59 +1,17 @@
 //! The gate-post examples of RULES 9, each by its name there.
 
-use reference::{backward, baum_welch, forward, leaves, viterbi, Answer, Estimates, Model, Shape};
+mod tables;
+
+use reference::{backward, baum_welch, forward, leaves, viterbi, Answer, Estimates};
+use tables::{all_zero, model_p, Tables};
 
 const MINUS: f64 = f64::NEG_INFINITY;
 // As the rules write it, in decimal.
 #[allow(clippy::approx_constant)]
 const LN_2: f64 = 0.6931471805599453;
 
-struct Tables {
-    states: usize,
-    ends: bool,
-    transition: Vec<f64>,
-    emission: Vec<f64>,
-    initial: Vec<f64>,
-    end: Vec<f64>,
-}
-
-impl Tables {
-    fn model(&self) -> Model<'_> {
-        Model {
-            shape: Shape {
-                states: self.states,
-                symbols: 2,
-                ends: self.ends,
-            },
-            transition: &self.transition,
-            emission: &self.emission,
-            initial: &self.initial,
-            end: &self.end,
-        }
-    }
-}
-
-fn model_p() -> Tables {
-    Tables {
-        transition: vec![-1.0, -2.0, -2.0, -1.0],
-        emission: vec![-1.0, -3.0, -3.0, -1.0],
-        initial: vec![-1.0, -2.0],
-        ..all_zero(2)
-    }
-}
-
-fn all_zero(states: usize) -> Tables {
-    Tables {
-        states,
-        ends: false,
-        transition: vec![0.0; states * states],
-        emission: vec![0.0; states * 2],
-        initial: vec![0.0; states],
-        end: vec![0.0; states],
-    }
-}
-
 fn decode(tables: &Tables, samples: &[u16]) -> (Vec<u8>, Answer) {
-    let cells = tables.states * samples.len();
+    let cells = tables.initial.len() * samples.len();
     let mut path = vec![9; samples.len()];
     let answer = viterbi(
         &tables.model(),
@@ -105,12 +63,12 @@ fn p5_p6_entries_that_are_not_good() {
 
 #[test]
 fn z1_z2_z3_ties_likelihood_and_nothing_reachable() {
-    let z = all_zero(2);
+    let z = all_zero(2, 2);
     assert_decodes(&z, &[0, 0], &[1, 1], 0.0);
     let mut values = [0.0; 2];
     assert_answer(forward(&z.model(), &[0], &mut values), 0, 0, 0, LN_2);
     assert_answer(backward(&z.model(), &[0], &mut values), 0, 0, 0, LN_2);
-    let mut three = all_zero(3);
+    let mut three = all_zero(3, 2);
     three.initial.fill(MINUS);
     assert_decodes(&three, &[0, 0], &[2, 2], MINUS);
 }
@@ -126,7 +84,7 @@ fn e1_e2_the_way_out_chooses_the_last_state() {
 
 #[test]
 fn e3_without_an_end_state_nothing_is_added() {
-    let mut zeros = all_zero(2);
+    let mut zeros = all_zero(2, 2);
     (zeros.emission, zeros.initial) = (vec![-0.0; 4], vec![-0.0; 2]);
     assert_decodes(&zeros, &[0], &[1], -0.0);
     zeros.ends = true;
@@ -150,7 +108,7 @@ fn s1_s2_sums() {
 
 #[test]
 fn z4_a_pass_on_one_sample_without_end() {
-    let z = all_zero(2);
+    let z = all_zero(2, 2);
     let mut outputs = [[7.0; 4]; 6];
     let [new_transition, new_emission, new_initial, new_end, alpha, beta] = &mut outputs;
     let mut new = Estimates {

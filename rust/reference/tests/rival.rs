@@ -1,59 +1,16 @@
 //! Rivals that are worked out by hand.
 
+mod tables;
+
 use reference::answer::{BAD_INDEX, NOT_GOOD, NO_RIVAL, OUTPUT_TOO_SHORT, SAMPLES, TRANSITION, UNKNOWN_SYMBOL};
-use reference::{rival, Answer, Model, Rivalry, Shape};
+use reference::{rival, Answer, Rivalry};
+use tables::{all_zero, model_p, Tables};
 
 const MINUS: f64 = f64::NEG_INFINITY;
 
 /// What the outputs are filled with.
 const BYTE: u8 = 99;
 const NUMBER: f64 = 99.0;
-
-struct Tables {
-    ends: bool,
-    transition: Vec<f64>,
-    emission: Vec<f64>,
-    initial: Vec<f64>,
-    end: Vec<f64>,
-}
-
-impl Tables {
-    fn model(&self) -> Model<'_> {
-        Model {
-            shape: Shape {
-                states: self.initial.len(),
-                symbols: self.emission.len() / self.initial.len(),
-                ends: self.ends,
-            },
-            transition: &self.transition,
-            emission: &self.emission,
-            initial: &self.initial,
-            end: &self.end,
-        }
-    }
-}
-
-/// Model P of RULES 9.
-fn model_p() -> Tables {
-    Tables {
-        ends: false,
-        transition: vec![-1.0, -2.0, -2.0, -1.0],
-        emission: vec![-1.0, -3.0, -3.0, -1.0],
-        initial: vec![-1.0, -2.0],
-        end: vec![0.0; 2],
-    }
-}
-
-/// So many states that tie in everything, with one symbol.
-fn alike(states: usize) -> Tables {
-    Tables {
-        ends: false,
-        transition: vec![0.0; states * states],
-        emission: vec![0.0; states],
-        initial: vec![0.0; states],
-        end: vec![0.0; states],
-    }
-}
 
 /// What a call gives, and its outputs.
 struct Called {
@@ -139,7 +96,7 @@ fn the_end_entry_is_added_last() {
 
 #[test]
 fn the_highest_numbered_of_equal_ones_wins() {
-    let (tied, samples) = (alike(3), [0, 0, 0]);
+    let (tied, samples) = (all_zero(3, 1), [0, 0, 0]);
     let best: (&[u8], f64) = (&[2, 2, 2], 0.0);
     assert_rival(&tied, &samples, 0, (&[1, 2, 2], 0.0), best);
     assert_rival(&tied, &samples, 1, (&[2, 1, 2], 0.0), best);
@@ -148,7 +105,7 @@ fn the_highest_numbered_of_equal_ones_wins() {
 
 #[test]
 fn each_value_has_the_sign_of_its_own_path() {
-    let mut zeros = alike(3);
+    let mut zeros = all_zero(3, 1);
     (zeros.initial, zeros.emission) = (vec![-0.0, 0.0, -0.0], vec![-0.0; 3]);
     assert_rival(&zeros, &[0], 0, (&[1], 0.0), (&[2], -0.0));
     zeros.initial = vec![0.0, -0.0, 0.0];
@@ -164,9 +121,9 @@ fn the_state_is_barred_at_the_index_alone() {
 
 #[test]
 fn refusal_15_no_path_with_another_state() {
-    assert_refused(&call(&alike(1), &[0, 0], 1), NO_RIVAL, 0, 0);
+    assert_refused(&call(&all_zero(1, 1), &[0, 0], 1), NO_RIVAL, 0, 0);
     // Nothing leads to the other state: there is a rival at the first sample and none at the last.
-    let mut one_way = alike(2);
+    let mut one_way = all_zero(2, 1);
     one_way.transition = vec![-1.0, MINUS, -1.0, MINUS];
     (one_way.initial, one_way.emission) = (vec![-1.0, -2.0], vec![-1.0, -1.0]);
     assert_rival(&one_way, &[0, 0], 0, (&[1, 0], -5.0), (&[0, 0], -4.0));
@@ -175,11 +132,11 @@ fn refusal_15_no_path_with_another_state() {
     one_way.initial = vec![MINUS; 2];
     assert_refused(&call(&one_way, &[0, 0], 0), NO_RIVAL, 0, 0);
     // There is no way out of the other state.
-    let mut no_way_out = alike(2);
+    let mut no_way_out = all_zero(2, 1);
     (no_way_out.ends, no_way_out.end) = (true, vec![0.0, MINUS]);
     assert_refused(&call(&no_way_out, &[0], 0), NO_RIVAL, 0, 0);
     // The other state's score overflows.
-    let mut huge = alike(2);
+    let mut huge = all_zero(2, 1);
     (huge.initial, huge.emission) = (vec![-1.0, -f64::MAX], vec![-1.0, -f64::MAX]);
     assert_refused(&call(&huge, &[0], 0), NO_RIVAL, 0, 0);
 }
@@ -192,7 +149,7 @@ fn refusal_16_no_sample_has_the_index() {
     }
     assert_refused(&call(&p, &[], 0), BAD_INDEX, 0, 0);
     // Before 15, and after 8 and 7.
-    assert_refused(&call(&alike(1), &[0], 1), BAD_INDEX, 0, 0);
+    assert_refused(&call(&all_zero(1, 1), &[0], 1), BAD_INDEX, 0, 0);
     assert_refused(&call(&p, &[0, 1, 2], 3), UNKNOWN_SYMBOL, SAMPLES, 2);
     let mut bad = model_p();
     bad.transition[3] = f64::NAN;
