@@ -382,7 +382,8 @@ wasnugram_answer wasnugram_viterbi(
  * end entry included where there is an end state. No path with another state at the index scores higher than the rival.
  *
  * Margin. best - answer.value is a difference of log-probabilities, at least 0. A margin of 0.42 says that the best path is
- * exp(0.42) = 1.52 times as likely as the rival, under the model; it does not say that the model is right. A margin of 0 is a tie. The
+ * exp(0.42) = 1.52 times as likely as the rival, under the model; it does not say that the model is right. A margin of 0 is a tie. Look at
+ * the refusal first: where the call is refused both are minus infinity, their difference is NaN, and a chosen state of 0 means nothing. The
  * margin at each sample of a passage takes a call for each.
  *
  * Ties. Both paths follow the rule of wasnugram_viterbi, the rival's among the states that are left.
