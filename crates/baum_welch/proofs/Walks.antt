@@ -11,8 +11,8 @@ use lib.Ieee.Fits.{add-fits}
 use Rattle.floats.specs.Float.{_⊕_, isMinusInfinity}
 use Rattle.floats.proofs.Finite.{capped-finite}
 use Rattle.floats.proofs.Ceiling.{lid, lid-capped}
-use Rattle.probs.proofs.Loops.{lnSum-same}
-use Rattle.probs.proofs.Bounds.{lnSum-fits}
+use Rattle.sums.proofs.Loops.{lnSum-same}
+use Rattle.sums.proofs.Bounds.{lnSum-fits}
 use Rattle.model.specs.Model.{Model}
 use Rattle.model.proofs.Low.{Low}
 use Rattle.likelihood.specs.Walk.{alpha, beta, forwardValue}

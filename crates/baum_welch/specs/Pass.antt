@@ -4,7 +4,7 @@ use mathlib.Core.Bool.{Bool, cond}
 use mathlib.Core.List.{List}
 use lib.Ieee.{Float, lt}
 use Rattle.floats.specs.Float.{_⊕_, _⊖_, nought}
-use Rattle.probs.specs.Sum.{lnSum}
+use Rattle.sums.specs.Sum.{lnSum}
 use Rattle.model.specs.Model.{Model}
 use Rattle.likelihood.specs.Walk.{alpha, beta}
 use Rattle.occupancy.specs.Occupancy.{Walks, occupancy, lastOccupancy, gamma, emitted, denominator, arcSum}

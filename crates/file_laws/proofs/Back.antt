@@ -28,14 +28,14 @@ use Rattle.checks.specs.Rooms.{Roomy}
 use Rattle.checks.specs.Checks.{roomTests}
 use Rattle.checks.proofs.Tests.{is-true}
 use Rattle.checks.proofs.Done.{clear-outputs}
-use Rattle.model_file.specs.Layout.{count, size, fileLength, bits, tableOf, modelFile}
-use Rattle.model_file.specs.Reading.{shapeOf, bodyOf, floats, endAt, endOf, modelIn}
-use Rattle.model_file.specs.Checks.{fileTests, wordTest, wordTests, readRooms, readTests}
+use Rattle.file_layout.specs.Layout.{count, size, fileLength, bits, tableOf, modelFile}
+use Rattle.file_layout.specs.Reading.{shapeOf, bodyOf, floats, endAt, endOf, modelIn}
+use Rattle.file_layout.specs.Checks.{fileTests, wordTest, wordTests, readRooms, readTests}
 use Rattle.file_laws.specs.Flip.{flipped, Told}
-use Rattle.model_file.specs.inner.Whole.{Filed, FileAccepted}
-use Rattle.model_file.proofs.Accepting.{clear-tab, tab-clear, accepted-clear}
-use Rattle.model_file.proofs.Bounds.{count-low, count-high}
-use Rattle.model_file.proofs.Within.{length-body}
+use Rattle.file_layout.specs.inner.Whole.{Filed, FileAccepted}
+use Rattle.file_layout.proofs.Accepting.{clear-tab, tab-clear, accepted-clear}
+use Rattle.file_layout.proofs.Bounds.{count-low, count-high}
+use Rattle.file_layout.proofs.Within.{length-body}
 use Rattle.model_file.proofs.Writes.{table-size, table-numbers, count-3, length-whole}
 use Rattle.file_laws.proofs.Written.{same-shape, same-body, written-accepted, known-layout, read-written, read-filed, file-same}
 use Rattle.file_laws.proofs.Cut.{cut-refused, more-refused}

@@ -14,12 +14,12 @@ use Rattle.little_endian.specs.Bytes.{value}
 use Rattle.answer.specs.Answer.{refuse}
 use Rattle.answer.specs.Checks.{firstOf}
 use Rattle.answer.proofs.Checks.{finds}
-use Rattle.model_file.specs.Checks.{fileTests, firstWrong, layoutTests, pattern}
-use Rattle.model_file.specs.Reading.{shapeOf}
-use Rattle.model_file.specs.inner.Whole.{FileAccepted}
-use Rattle.model_file.proofs.Bounds.{shape-same}
-use Rattle.model_file.proofs.Accepting.{layout-wrong}
-use Rattle.model_file.proofs.Fits.{Fits, fits-length, wrong-more, wrong-take}
+use Rattle.file_layout.specs.Checks.{fileTests, firstWrong, layoutTests, pattern}
+use Rattle.file_layout.specs.Reading.{shapeOf}
+use Rattle.file_layout.specs.inner.Whole.{FileAccepted}
+use Rattle.file_layout.proofs.Bounds.{shape-same}
+use Rattle.file_layout.proofs.Accepting.{layout-wrong}
+use Rattle.file_layout.proofs.Fits.{Fits, fits-length, wrong-more, wrong-take}
 use Rattle.file_laws.proofs.Written.{known-layout}
 use Rattle.answer.specs.declared.Refusal.the-variants.{BadLayout}
 

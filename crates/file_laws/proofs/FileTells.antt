@@ -22,9 +22,9 @@ use Rattle.checks.specs.Faults.{Fault, shapeFaults, roomFaults}
 use Rattle.checks.proofs.Tests.{or-false}
 use Rattle.checks.proofs.FirstFault.{Tells, Tell, tell-both}
 use Rattle.checks.proofs.Tells.{at-one, at-first, apart, shape-tells, rooms-tell}
-use Rattle.model_file.specs.Reading.{shapeOf, bodyOf, sumOf}
-use Rattle.model_file.specs.Checks.{Demand, any, meets, pattern, firstWrong, someWrong, layoutTests, sumTest, sumTests}
-use Rattle.model_file.specs.Checks.{wordTest, wordTests, readRooms, readTests}
+use Rattle.file_layout.specs.Reading.{shapeOf, bodyOf, sumOf}
+use Rattle.file_layout.specs.Checks.{Demand, any, meets, pattern, firstWrong, someWrong, layoutTests, sumTest, sumTests}
+use Rattle.file_layout.specs.Checks.{wordTest, wordTests, readRooms, readTests}
 use Rattle.file_laws.specs.Faults.{WrongAt, ofTables, BadWord, tooShort, badLayout, badSums, badWords, readFaults}
 
 -- ---- 13, the first wrong place

@@ -12,8 +12,8 @@ use Rattle.lists.proofs.Parts.{le-or-lt}
 use Rattle.little_endian.specs.Bytes.{little}
 use Rattle.little_endian.proofs.Bytes.{length-little, little-one}
 use Rattle.model.specs.Accepted.{InRange}
-use Rattle.model_file.proofs.Bounds.{shape-same}
-use Rattle.model_file.specs.Layout.{count, label, offset, size}
+use Rattle.file_layout.proofs.Bounds.{shape-same}
+use Rattle.file_layout.specs.Layout.{count, label, offset, size}
 
 -- a square has one root
 square-up : (a b : ℕ) → a < b → a * a ≡ b * b → ⊥

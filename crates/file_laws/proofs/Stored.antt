@@ -21,17 +21,17 @@ use Rattle.answer.proofs.Checks.{Clear, clear, give-both, given, goes-on, stops
 use Rattle.model.specs.Accepted.{InRange}
 use Rattle.checks.specs.Checks.{shapeTests}
 use Rattle.checks.proofs.Shapes.{shape-gives}
-use Rattle.model_file.specs.Checks.{any, byte, fileTests, firstWrong, layoutTests, meets, pattern, someWrong, sumTest, sumTests}
+use Rattle.file_layout.specs.Checks.{any, fileTests, firstWrong, layoutTests, meets, pattern, someWrong, sumTest, sumTests}
 use Rattle.file_laws.specs.Flip.{Told, flip, flipped, inBody, inLabel, inNumbers, inSum, isFirstNumber}
-use Rattle.model_file.specs.Layout.{count, first, label, offset, size}
-use Rattle.model_file.specs.Reading.{bodyAt, bodyOf, shapeOf, sumOf}
-use Rattle.model_file.specs.inner.Whole.{FileAccepted}
-use Rattle.model_file.proofs.Accepting.{Laid, laid, layout-clear, layout-refuses, tab-first, layout-wrong}
+use Rattle.file_layout.specs.Layout.{count, first, label, offset, size}
+use Rattle.file_layout.specs.Reading.{bodyAt, bodyOf, shapeOf, sumOf}
+use Rattle.file_layout.specs.inner.Whole.{FileAccepted}
+use Rattle.file_layout.proofs.Accepting.{Laid, laid, layout-clear, layout-refuses, tab-first, layout-wrong}
 use Rattle.file_laws.proofs.Apart.{Apart, apart-not, flip-apart, step-pos, sum-off, total-off, value-apart}
-use Rattle.model_file.proofs.Bounds.{count-low, shape-same}
-use Rattle.model_file.proofs.Fits.{Fits, fits-length, fits-set, wrong-set}
+use Rattle.file_layout.proofs.Bounds.{count-low, shape-same}
+use Rattle.file_layout.proofs.Fits.{Fits, fits-length, fits-set, wrong-set}
 use Rattle.file_laws.proofs.ShapeOf.{shape-one}
-use Rattle.model_file.proofs.Whole.{body-in, demand-body, demand-label, demand-sum, first-is, label-is, long, offset-next, offset-up}
+use Rattle.file_layout.proofs.Whole.{body-in, demand-body, demand-label, demand-sum, first-is, label-is, long, offset-next, offset-up}
 use Rattle.file_laws.proofs.Written.{known-layout, known-sums}
 use Rattle.answer.specs.declared.Answer.{Answer}
 use Rattle.answer.specs.declared.Refusal.the-variants.{BadLayout, BadSum}

@@ -13,14 +13,14 @@ use Rattle.little_endian.specs.Bytes.{Below, bytes, little, sum, value, words}
 use Rattle.little_endian.proofs.Bytes.{below-both, length-words, little-below, value-little, words-bytes, words-small}
 use Rattle.answer.proofs.Checks.{clear-both, clear-left, clear-right, no-fault}
 use Rattle.model.specs.Accepted.{InRange}
-use Rattle.model_file.specs.Checks.{fileTests, layoutTests, pattern, sumTests}
-use Rattle.model_file.specs.Layout.{count, fileOf, first, flag, label, layout, offset, size}
-use Rattle.model_file.specs.Reading.{bodyAt, bodyOf, shapeOf, sumOf}
-use Rattle.model_file.specs.inner.Whole.{FileAccepted, Filed}
-use Rattle.model_file.proofs.Bounds.{shape-same}
-use Rattle.model_file.proofs.Accepting.{Laid, accepted-clear, laid, layout-clear, summed, sums-clear}
-use Rattle.model_file.proofs.Fits.{Fits}
-use Rattle.model_file.proofs.Whole.{below-part, body-back, layout-fits, long, offset-up, sum-back, whole}
+use Rattle.file_layout.specs.Checks.{fileTests, layoutTests, pattern, sumTests}
+use Rattle.file_layout.specs.Layout.{count, fileOf, first, flag, label, layout, offset, size}
+use Rattle.file_layout.specs.Reading.{bodyAt, bodyOf, shapeOf, sumOf}
+use Rattle.file_layout.specs.inner.Whole.{FileAccepted, Filed}
+use Rattle.file_layout.proofs.Bounds.{shape-same}
+use Rattle.file_layout.proofs.Accepting.{Laid, accepted-clear, laid, layout-clear, summed, sums-clear}
+use Rattle.file_layout.proofs.Fits.{Fits}
+use Rattle.file_layout.proofs.Whole.{below-part, body-back, layout-fits, long, offset-up, sum-back, whole}
 use Rattle.model.specs.declared.Shape.{Shape}
 
 sum-small : (ws : List ℕ) → sum ws < 256 ^ 8

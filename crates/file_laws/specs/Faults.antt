@@ -7,8 +7,8 @@ use mathlib.Core.List.{List, [], _∷_, _++_}
 use lib.ListN.{length, getD}
 use Rattle.little_endian.specs.Bytes.{sum}
 use Rattle.checks.specs.Faults.{Fault, fault, shapeFaults, roomFaults}
-use Rattle.model_file.specs.Reading.{shapeOf, bodyOf, sumOf}
-use Rattle.model_file.specs.Checks.{Demand, any, meets, pattern, readRooms}
+use Rattle.file_layout.specs.Reading.{shapeOf, bodyOf, sumOf}
+use Rattle.file_layout.specs.Checks.{Demand, any, meets, pattern, readRooms}
 
 -- place p is one of the file or of what is demanded, and where it is one of both, its byte is another than the demanded
 abbrev pub WrongAt : List Demand → List ℕ → ℕ → Type 0

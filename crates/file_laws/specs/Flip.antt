@@ -9,7 +9,7 @@ use Rattle.answer.specs.Answer.{refuse, numberOf}
 use Rattle.answer.specs.declared.Answer.{Answer}
 use Rattle.answer.specs.declared.Refusal.the-variants.{BadLayout, BadSum}
 use Rattle.model.specs.declared.Shape.{Shape}
-use Rattle.model_file.specs.Layout.{count, size, offset}
+use Rattle.file_layout.specs.Layout.{count, size, offset}
 
 -- x with bit k the other way
 unfoldable pub flip : ℕ → ℕ → ℕ

@@ -18,16 +18,16 @@ use Rattle.model.specs.Lent.{Tables, tablesOf}
 use Rattle.model.specs.Accepted.{HeldTables, AcceptedTables}
 use Rattle.checks.proofs.Unsampled.{tables-let-through, are-let-through}
 use Rattle.model_file.specs.declared.Reading.{Reading}
-use Rattle.model_file.specs.Layout.{count, size, fileLength, modelFile}
-use Rattle.model_file.specs.Reading.{shapeOf, bodyOf, floats, endOf, modelIn}
-use Rattle.model_file.specs.Checks.{fileTests, writeRooms}
+use Rattle.file_layout.specs.Layout.{count, size, fileLength, modelFile}
+use Rattle.file_layout.specs.Reading.{shapeOf, bodyOf, floats, endOf, modelIn}
+use Rattle.file_layout.specs.Checks.{fileTests, writeRooms}
 use Rattle.model_file.specs.Call.{Outputs, outputs, readCheck, Read, writeCheck}
 use Rattle.file_laws.specs.Flip.{flipped, Told}
-use Rattle.model_file.specs.inner.Whole.{FileAccepted}
+use Rattle.file_layout.specs.inner.Whole.{FileAccepted}
 use Rattle.model_file.proofs.ReadChecks.{Readable, read-done}
 use Rattle.file_laws.proofs.Back.{file-accepted, shape-back, table-back, end-back, read-is-done, length-file, flip-read, flip-stops}
 use Rattle.file_laws.proofs.Back.{cut-read, more-read, write-back, read-accepted, length-table, end-length}
-use Rattle.model_file.proofs.Bounds.{count-low}
+use Rattle.file_layout.proofs.Bounds.{count-low}
 use Rattle.file_promises.specs.ModelFile.{HasRoom, WriterIsDone, modelRead, Untouched, GivenBack, ReadingGivesBack, Of}
 use Rattle.file_promises.specs.ModelFile.{ModelFileHolds}
 use Rattle.checks.proofs.Left.{checks-done, front-is}

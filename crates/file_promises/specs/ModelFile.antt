@@ -13,8 +13,8 @@ use Rattle.model.specs.Lent.{Tables, tablesOf}
 use Rattle.model.specs.Accepted.{HeldTables, AcceptedTables}
 use Rattle.checks.specs.Rooms.{Roomy}
 use Rattle.model_file.specs.declared.Reading.{Reading}
-use Rattle.model_file.specs.Layout.{size, fileLength, modelFile}
-use Rattle.model_file.specs.Checks.{readRooms}
+use Rattle.file_layout.specs.Layout.{size, fileLength, modelFile}
+use Rattle.file_layout.specs.Checks.{readRooms}
 use Rattle.model_file.specs.Call.{Outputs, outputs, Read, Written}
 use Rattle.file_laws.specs.Flip.{flipped, Told}
 

@@ -8,20 +8,20 @@ use Rattle.little_endian.specs.Bytes.{little, value, bytes, words, total, sum}
 use Rattle.answer.specs.Checks.{firstOf}
 use Rattle.model.specs.Good.{good, goodEnd, goodBits}
 use Rattle.checks.specs.Checks.{shapeTests, roomTests, entryTests, testsOf}
-use Rattle.model_file.specs.Layout.{size, offset, first, label, layout, fileOf, modelFile}
-use Rattle.model_file.specs.Reading.{shapeOf, bodyAt, sumOf, endAt}
-use Rattle.model_file.specs.Checks.{pattern, firstWrong, layoutTests, sumTests, wordTests, readTests}
+use Rattle.file_layout.specs.Layout.{size, offset, first, label, layout, fileOf, modelFile}
+use Rattle.file_layout.specs.Reading.{shapeOf, bodyAt, sumOf, endAt}
+use Rattle.file_layout.specs.Checks.{pattern, firstWrong, layoutTests, sumTests, wordTests, readTests}
 use Rattle.file_laws.specs.Flip.{flip}
 use Rattle.gate_posts.specs.Models.{minus}
 use Rattle.gate_posts.specs.Files.{bodiesP, fileP, endE, fileE}
 use Rattle.gate_posts.specs.Table.{AllHold, gatePosts}
 use Rattle.gate_posts.proofs.Example.{holds}
 
-pub files : AllHold (drop 29 gatePosts)
+pub files : AllHold (drop 32 gatePosts)
 unfolding gatePosts minus bodiesP fileP endE fileE tab flat over firstBad little value bytes words total sum firstOf good goodEnd goodBits isPlusZero
     shapeTests roomTests entryTests testsOf size offset first label layout fileOf modelFile shapeOf bodyAt sumOf endAt pattern
     firstWrong layoutTests sumTests wordTests readTests flip ofBits ofInt toBits le isNan
 files =
-    let ending : AllHold (drop 33 gatePosts) = (holds _ refl refl, (holds _ refl refl, tt)) in
-    let spoiled : AllHold (drop 31 gatePosts) = (holds _ refl refl, (holds _ refl refl, ending)) in
+    let ending : AllHold (drop 36 gatePosts) = (holds _ refl refl, (holds _ refl refl, tt)) in
+    let spoiled : AllHold (drop 34 gatePosts) = (holds _ refl refl, (holds _ refl refl, ending)) in
     (holds _ refl refl, (holds _ refl refl, spoiled))

@@ -1,9 +1,11 @@
--- K1 and K2: what exp and ln are at the examples' arguments.
+-- K1 and K2: what exp and ln are at the examples' arguments; and ln where a sum has one term.
 use mathlib.Core.Path.{_≡_, refl, sym, ap, _∙_}
 use mathlib.Core.Bool.{true, false}
 use lib.IntN.{negsuc}
-use lib.Ieee.{fin, neg, mul, round, size}
+use lib.Ieee.{fin, neg, add, mul, sum, round, size}
+use Rattle.floats.specs.Float.{_⊕_, nought, one}
 use Rattle.kernels.specs.Ln.{ln2, logBits, lnFrom, lnOf}
+use Rattle.kernels.proofs.LnLaws.{ln-one}
 use Rattle.kernels.proofs.LnParts.{ln2-is}
 use Rattle.gate_posts.specs.Table.{two, half}
 
@@ -24,3 +26,7 @@ ln-two = two-computed ∙ sym ln2-is
 
 pub ln-half : lnOf half ≡ neg ln2
 ln-half = half-computed ∙ sym (ap neg ln2-is ∙ negated)
+
+pub log-one : lnOf (one ⊕ nought) ≡ nought
+unfolding add sum round size
+log-one = ln-one

@@ -5,14 +5,13 @@ use mathlib.Core.Path.{_≡_, sym, ap, _∙_}
 use mathlib.Core.Bool.{true, false}
 use mathlib.Core.List.{[], _∷_}
 use lib.Ieee.{Float, add, sub, neg, sum, round, size, lt, eq}
-use Rattle.floats.specs.Float.{_⊕_, _⊖_, nought, one, minusInfinity, isMinusInfinity, isInfinite}
+use Rattle.floats.specs.Float.{_⊕_, _⊖_, nought, minusInfinity, isMinusInfinity, isInfinite}
 use Rattle.answer.specs.Answer.{refuse}
 use Rattle.answer.specs.declared.Refusal.the-variants.{ZeroMass}
-use Rattle.kernels.specs.Ln.{ln2, lnOf}
-use Rattle.kernels.proofs.LnLaws.{ln-one}
+use Rattle.kernels.specs.Ln.{ln2}
 use Rattle.kernels.proofs.LnParts.{ln2-is}
-use Rattle.probs.specs.Sum.{raised, peak, plusExp, expSum, grown, lnSum}
-use Rattle.probs.specs.Pair.{relativeEq, lnSub}
+use Rattle.sums.specs.Sum.{raised, peak, plusExp, expSum, grown, lnSum}
+use Rattle.sums.specs.Pair.{relativeEq, lnSub}
 use Rattle.model.specs.Lent.{Lent}
 use Rattle.model.specs.Model.{modelOf}
 use Rattle.likelihood.specs.Walk.{alpha, beta}
@@ -24,6 +23,7 @@ use Rattle.baum_welch.proofs.Walks.{probx-is}
 use Rattle.lists.proofs.First.{first-stop, first-none}
 use Rattle.baum_welch.proofs.ZeroMass.{hollow, mass-state}
 use Rattle.gate_posts.specs.Models.{modelZ}
+use Rattle.gate_posts.proofs.Kernels.{log-one}
 use Rattle.gate_posts.proofs.OneSample.{forward-value}
 
 abbrev z : Lent
@@ -39,10 +39,6 @@ share = nought ⊖ ln2
 occupied : occupancy (walks (modelOf z) 1) 0 0 ≡ share
 unfolding occupancy alpha beta add sum round size share
 occupied = rw probx-is-ln2
-
-log-one : lnOf (one ⊕ nought) ≡ nought
-unfolding add sum round size
-log-one = ln-one
 
 alone : share ⊕ nought ≡ share
 unfolding share add sub neg sum round size

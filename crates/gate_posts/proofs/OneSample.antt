@@ -9,8 +9,8 @@ use Rattle.kernels.specs.Exp.{expOf}
 use Rattle.kernels.specs.Ln.{ln2, lnOf}
 use Rattle.kernels.proofs.ExpLaws.{exp-zero}
 use Rattle.kernels.proofs.LnParts.{ln2-is}
-use Rattle.probs.specs.Sum.{raised, peak, plusExp, expSum, grown, lnSum}
-use Rattle.probs.proofs.Loops.{lnSum-same}
+use Rattle.sums.specs.Sum.{raised, peak, plusExp, expSum, grown, lnSum}
+use Rattle.sums.proofs.Loops.{lnSum-same}
 use Rattle.model.specs.Model.{modelOf}
 use Rattle.likelihood.specs.Walk.{alpha, forwardValue, beta, backwardValue}
 use Rattle.gate_posts.specs.Models.{modelZ}

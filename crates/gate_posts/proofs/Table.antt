@@ -9,8 +9,8 @@ use Rattle.answer.specs.Checks.{firstOf}
 use Rattle.kernels.proofs.ExpLaws.{exp-zero, exp-minus-infinity}
 use Rattle.kernels.proofs.LnLaws.{ln-one}
 use Rattle.floats.specs.Float.{isInfinite, isPlusZero}
-use Rattle.probs.specs.Sum.{raised, peak, grown, lnSum}
-use Rattle.probs.specs.Pair.{relativeEq, lnSub}
+use Rattle.sums.specs.Sum.{raised, peak, grown, lnSum}
+use Rattle.sums.specs.Pair.{relativeEq, lnSub}
 use Rattle.probs.specs.Calls.{unlessNan}
 use Rattle.model.specs.Good.{good, goodEnd}
 use Rattle.checks.specs.Checks.{shapeTests, countTests, roomTests, entryTests, sampleTests, testsOf}
@@ -21,6 +21,7 @@ use Rattle.gate_posts.specs.Models.{minus, least}
 use Rattle.gate_posts.specs.Table.{AllHold, gatePosts, GatePostsHold}
 use Rattle.gate_posts.proofs.Kernels.{ln-two, ln-half}
 use Rattle.gate_posts.proofs.OneSample.{forward-value, backward-value}
+use Rattle.gate_posts.proofs.OneState.{one-state}
 use Rattle.gate_posts.proofs.NoMass.{no-mass}
 use Rattle.gate_posts.proofs.Example.{holds}
 use Rattle.gate_posts.proofs.Files.{files}
@@ -30,10 +31,10 @@ unfolding gatePosts minus least over testsOf shapeTests countTests roomTests ent
     isPlusZero barring bestOf ranksAtLeast predecessor greatest cell ended pathTo value from lastState bestPath bestValue unlessNan lnSum
     grown peak raised isInfinite lnSub relativeEq ofBits ofInt toBits round size add sum le lt eq isNan neg
 gate-posts =
-    let sums : AllHold (drop 27 gatePosts) = (holds _ refl refl, (holds _ refl refl, files)) in
-    let logs : AllHold (drop 24 gatePosts) = (holds _ (ap done ln-one) refl, (holds _ (ap done ln-two) refl, (holds _ (ap done ln-half) refl, sums))) in
-    let exps : AllHold (drop 22 gatePosts) = (holds _ (ap done (exp-zero false)) refl, (holds _ (ap done exp-minus-infinity) refl, logs)) in
-    let blocked : AllHold (drop 19 gatePosts) = (holds _ refl refl, (holds _ refl refl, (holds _ refl refl, exps))) in
+    let sums : AllHold (drop 30 gatePosts) = (holds _ refl refl, (holds _ refl refl, files)) in
+    let logs : AllHold (drop 27 gatePosts) = (holds _ (ap done ln-one) refl, (holds _ (ap done ln-two) refl, (holds _ (ap done ln-half) refl, sums))) in
+    let exps : AllHold (drop 25 gatePosts) = (holds _ (ap done (exp-zero false)) refl, (holds _ (ap done exp-minus-infinity) refl, logs)) in
+    let blocked : AllHold (drop 19 gatePosts) = (holds _ refl refl, (holds _ refl refl, (holds _ refl refl, one-state exps))) in
     let r : AllHold (drop 16 gatePosts) = (holds _ refl refl, (holds _ refl refl, (holds _ refl refl, blocked))) in
     let pass : AllHold (drop 15 gatePosts) = (holds _ no-mass refl, r) in
     let walks : AllHold (drop 13 gatePosts) = (holds _ (ap done forward-value) refl, (holds _ (ap done backward-value) refl, pass)) in

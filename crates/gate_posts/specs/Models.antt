@@ -4,7 +4,7 @@ use mathlib.Core.Bool.{Bool, true, false}
 use mathlib.Core.List.{List, [], _∷_}
 use lib.IntN.{negsuc}
 use lib.ListN.{replicate}
-use lib.Ieee.{Float, binary64, ofBits, ofInt, neg}
+use lib.Ieee.{Float, fin, binary64, ofBits, ofInt, neg}
 use Rattle.floats.specs.Float.{nought}
 use Rattle.model.specs.declared.Shape.{Shape}
 use Rattle.model.specs.Lent.{Lent, lent}
@@ -52,8 +52,13 @@ modelZ = changedZ 2 nought
 abbrev pub minusZeros : Bool → List ℕ → Lent
 minusZeros ends = tablesZ ends 2 (neg nought) (neg nought)
 
--- the model of one state and one symbol, every entry +0.0
+-- one state and one symbol: i is its initial entry, and e its transition and its emission entry
+abbrev alone : Float → Float → List ℕ → Lent
+alone i e = lent (record { states = 1; symbols = 1; ends = false }) (e ∷ []) (e ∷ []) (i ∷ []) (nought ∷ [])
+
 abbrev pub oneState : List ℕ → Lent
-oneState =
-    let alone = replicate 1 nought in
-    lent (record { states = 1; symbols = 1; ends = false }) alone alone alone alone
+oneState = alone nought nought
+
+-- model A: -2^-53, added to -1, is lost in rounding
+abbrev pub modelA : List ℕ → Lent
+modelA = alone (minus 1) (fin true 1 (negsuc 52))

@@ -1,6 +1,6 @@
--- The 28 gate-post examples of RULES 9 (P1 to P6, E1 to E3, Z1 to Z4, R1 to R6, K1, K2, S1, S2, F1 to F5) as a single table, `gatePosts`,
--- with a single statement, `GatePostsHold`: the definitions that the public calls promise give every one of them.
-use Prim.Native.Nat.{ℕ, suc, _*_}
+-- The 30 gate-post examples of RULES 9 (P1 to P6, E1 to E3, Z1 to Z4, R1 to R6, A1, A2, K1, K2, S1, S2, F1 to F5) as a single table,
+-- `gatePosts`, with a single statement, `GatePostsHold`: the definitions that the public calls promise give every one of them.
+use Prim.Native.Nat.{ℕ, suc, _*_, _^_}
 use mathlib.Core.Path.{_≡_}
 use mathlib.Core.Bool.{true, false, cond}
 use mathlib.Core.List.{List, [], _∷_, _++_}
@@ -24,12 +24,12 @@ use Rattle.rival.specs.Call.{asked, without, rivalry}
 use Rattle.likelihood.specs.Call.{forwardAnswer, backwardAnswer}
 use Rattle.baum_welch.specs.Call as BaumWelch
 use Rattle.baum_welch.specs.Call.{massAnswer, walksOf}
-use Rattle.model_file.specs.Layout.{fileLength, modelFile}
-use Rattle.model_file.specs.Reading.{shapeOf, modelIn}
+use Rattle.file_layout.specs.Layout.{fileLength, modelFile}
+use Rattle.file_layout.specs.Reading.{shapeOf, modelIn}
 use Rattle.file_laws.specs.Flip.{flipped}
 use Rattle.model_file.specs.Call as ModelFile
 use Rattle.model_file.specs.Call.{noShape, readCheck, writeCheck}
-use Rattle.gate_posts.specs.Models.{minus, least, modelP, changedP, endingP, modelZ, changedZ, minusZeros, oneState}
+use Rattle.gate_posts.specs.Models.{minus, least, modelP, changedP, endingP, modelZ, changedZ, minusZeros, oneState, modelA}
 use Rattle.gate_posts.specs.Files.{fileP, fileE}
 
 -- a call; outputs have exactly the room that they need, but that of a file has a byte more
@@ -219,6 +219,10 @@ gatePosts =
     -- R5: one state alone has no rival. R6: of equal rivals the one of the highest states is given
     ∷ unrivalled (oneState (0 ∷ [])) 0 (refuse NoRival 0 0)
     ∷ rivalled (modelZ (0 ∷ 0 ∷ [])) 0 1 nought (1 ∷ 1 ∷ []) nought (0 ∷ 1 ∷ [])
+    -- A1: forward may be equal to Viterbi. A2: backward, which adds from the other end, may be below it, here by 2^-51
+    ∷ decodes (modelA (0 ∷ 0 ∷ [])) (minus 1) (0 ∷ 0 ∷ [])
+    ∷ gives (forward (modelA (0 ∷ 0 ∷ []))) (done (minus 1))
+    ∷ gives (backward (modelA (0 ∷ 0 ∷ []))) (done (fin true (suc (2 ^ 51)) (negsuc 50)))
     -- K1 is exp at both ends of its domain, K2 ln at 1 and on both sides of it
     ∷ gives (exp nought) (done one)
     ∷ gives (exp minusInfinity) (done nought)

@@ -15,9 +15,9 @@ use Rattle.floats.proofs.Unit.{one-plus}
 use Rattle.kernels.specs.Exp.{expOf}
 use Rattle.kernels.proofs.RootsLaws.{constants-rule, rule-fixes}
 use Rattle.kernels.proofs.ExpLaws.{exp-nonneg}
-use Rattle.probs.specs.Sum.{Numbers, peak}
-use Rattle.probs.proofs.Domains.{exp-domain, ln-domain}
-use Rattle.probs.proofs.Pairs.{add-domain, sub-domain}
+use Rattle.sums.specs.Sum.{Numbers, peak}
+use Rattle.sums.proofs.Domains.{exp-domain, ln-domain}
+use Rattle.sums.proofs.Pairs.{add-domain, sub-domain}
 use Rattle.model.specs.Lent.{Lent, S, T}
 use Rattle.model.specs.Accepted.{Accepted}
 use Rattle.model.specs.Model.{Model, modelOf}

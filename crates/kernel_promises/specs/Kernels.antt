@@ -8,7 +8,7 @@ use lib.Ieee.{Float, lt, le}
 use Rattle.floats.specs.Float.{_⊕_, _⊖_, nought, one, isNumber, isMinusInfinity, isPlusInfinity, isInfinite}
 use Rattle.kernels.specs.Roots.{Rule, constants}
 use Rattle.kernels.specs.Exp.{expOf}
-use Rattle.probs.specs.Sum.{Numbers, peak, expSum}
+use Rattle.sums.specs.Sum.{Numbers, peak, expSum}
 use Rattle.model.specs.Lent.{Lent, S, T}
 use Rattle.model.specs.Accepted.{Accepted}
 use Rattle.model.specs.Model.{modelOf}

@@ -7,8 +7,8 @@ use lib.Ieee.{Float, binary64, le, fits}
 use lib.Ieee.Fits.{add-fits}
 use Rattle.floats.specs.Float.{_⊕_}
 use Rattle.floats.proofs.Ceiling.{lid, lid-add, most-lid, lid-number}
-use Rattle.probs.specs.Sum.{Numbers}
-use Rattle.probs.proofs.Bounds.{lid-ceiling, lnSum-above, lnSum-below, lnSum-fits}
+use Rattle.sums.specs.Sum.{Numbers}
+use Rattle.sums.proofs.Bounds.{lid-ceiling, lnSum-above, lnSum-below, lnSum-fits}
 use Rattle.model.specs.Model.{Model}
 use Rattle.model.proofs.Low.{Low}
 use Rattle.likelihood.specs.Walk.{alpha, forwardValue, beta, backwardValue}

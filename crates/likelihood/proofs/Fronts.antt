@@ -8,8 +8,8 @@ use Rattle.floats.specs.Float.{at, minusInfinity}
 use Rattle.lists.specs.Lists.{tab, over}
 use Rattle.lists.proofs.Over.{length-tab, getD-tab}
 use Rattle.lists.proofs.Laid.{front}
-use Rattle.probs.specs.inner.Open.{opened}
-use Rattle.probs.proofs.Loops.{peak-same, expSum-same}
+use Rattle.sums.specs.inner.Open.{opened}
+use Rattle.sums.proofs.Loops.{peak-same, expSum-same}
 
 -- the terms matter below n only
 pub opened-same : (n : ℕ) (f g : ℕ → Float) → ((k : ℕ) → k < n → f k ≡ g k) → opened n f ≡ opened n g

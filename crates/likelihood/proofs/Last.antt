@@ -12,7 +12,7 @@ use Rattle.floats.specs.Float.{_⊕_, at, minusInfinity}
 use Rattle.lists.specs.Lists.{tab}
 use Rattle.lists.proofs.Over.{length-tab, getD-tab}
 use Rattle.lists.proofs.Rows.{row-in}
-use Rattle.probs.proofs.Loops.{lnSum-same}
+use Rattle.sums.proofs.Loops.{lnSum-same}
 use Rattle.model.specs.Model.{Model}
 use Rattle.likelihood.specs.Walk.{forwardValue, backwardValue}
 use Rattle.likelihood.specs.inner.Sum.{lastSum}

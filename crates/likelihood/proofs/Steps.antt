@@ -14,7 +14,7 @@ use Rattle.lists.proofs.Places.{next-at}
 use Rattle.lists.proofs.Over.{length-tab, getD-tab, tab-same, tab-own, over-again}
 use Rattle.lists.proofs.Rows.{row-back, rows-settled}
 use Rattle.lists.proofs.Whole.{Whole, whole-more, whole-done}
-use Rattle.probs.proofs.Loops.{lnSum-same}
+use Rattle.sums.proofs.Loops.{lnSum-same}
 use Rattle.model.specs.Model.{Model, transitionOf, sampleAt}
 use Rattle.emission.proofs.FirstRow.{first-row-is}
 use Rattle.likelihood.specs.Walk.{alpha, beta}

@@ -9,9 +9,9 @@ use lib.ListN.{length}
 use lib.Ieee.{Float}
 use Rattle.floats.specs.Float.{_⊕_, at}
 use Rattle.lists.proofs.Places.{within-rows}
-use Rattle.probs.specs.Sum.{lnSum}
-use Rattle.probs.specs.inner.Open.{opened}
-use Rattle.probs.proofs.Loops.{lnSum-same}
+use Rattle.sums.specs.Sum.{lnSum}
+use Rattle.sums.specs.inner.Open.{opened}
+use Rattle.sums.proofs.Loops.{lnSum-same}
 use Rattle.likelihood.specs.declared.Stride.{Stride}
 use Rattle.likelihood.specs.inner.Sum.{strided, Within, term, Readable, lastSum, Closing}
 use Rattle.likelihood.specs.inner.Row.{cellTerm, Fitting}

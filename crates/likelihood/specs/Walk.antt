@@ -2,7 +2,7 @@
 use Prim.Native.Nat.{ℕ, zero, suc, _-_}
 use lib.Ieee.{Float}
 use Rattle.floats.specs.Float.{_⊕_, minusInfinity}
-use Rattle.probs.specs.Sum.{lnSum}
+use Rattle.sums.specs.Sum.{lnSum}
 use Rattle.model.specs.Model.{Model}
 
 module _ (m : Model) where

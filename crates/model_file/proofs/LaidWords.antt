@@ -15,7 +15,7 @@ use Rattle.little_endian.specs.Bytes.{value, words}
 use Rattle.little_endian.proofs.Bytes.{length-words}
 use Rattle.little_endian.proofs.Summing.{word-in}
 use Rattle.model.specs.Good.{goodBits}
-use Rattle.model_file.specs.Reading.{floats}
+use Rattle.file_layout.specs.Reading.{floats}
 use Rattle.model_file.specs.inner.Laying.{Layable}
 
 -- the float of word i

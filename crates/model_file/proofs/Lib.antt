@@ -1,11 +1,3 @@
-pub mod Bounds
-pub mod ByteAt
-pub mod Fits
-pub mod Whole
-pub mod Accepting
-pub mod Scanned
-pub mod Within
-pub mod FileChecks
 pub mod LaidWords
 pub mod ReadChecks
 pub mod Putting

@@ -12,7 +12,7 @@ use Rattle.lists.specs.Lists.{over}
 use Rattle.lists.proofs.Over.{over-next, length-over, over-none}
 use Rattle.little_endian.specs.Bytes.{bytes, little, sum, total}
 use Rattle.little_endian.proofs.Bytes.{bytes-both, total-both, one-word, one-total, length-bytes, length-little}
-use Rattle.model_file.specs.Layout.{bits, count, first, flag, label, offset}
+use Rattle.file_layout.specs.Layout.{bits, count, first, flag, label, offset}
 use Rattle.model_file.specs.inner.Putting.{entryOf}
 use Rattle.model.specs.declared.Shape.{Shape}
 

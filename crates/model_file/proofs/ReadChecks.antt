@@ -17,15 +17,15 @@ use Rattle.checks.proofs.Rooms.{rooms-refuse}
 use Rattle.checks.proofs.Done.{is-roomy}
 use Rattle.model.specs.Good.{goodBits}
 use Rattle.model_file.specs.Call.{Outputs, noShape, readCheck, Read}
-use Rattle.model_file.specs.Checks.{fileTests, layoutTests, readRooms, readTests, sumTests, wordTest, wordTests}
-use Rattle.model_file.specs.Layout.{count, size}
-use Rattle.model_file.specs.Reading.{bodyAt, bodyOf, endAt, endOf, floats, shapeOf}
+use Rattle.file_layout.specs.Checks.{fileTests, layoutTests, readRooms, readTests, sumTests, wordTest, wordTests}
+use Rattle.file_layout.specs.Layout.{count, size}
+use Rattle.file_layout.specs.Reading.{bodyAt, bodyOf, endAt, endOf, floats, shapeOf}
 use Rattle.model_file.specs.inner.Laying.{Laying, LayingEnd}
-use Rattle.model_file.specs.inner.Whole.{Whole}
-use Rattle.model_file.proofs.Accepting.{file-refuses, laid, tab-clear, tab-refuses}
-use Rattle.model_file.proofs.Fits.{fits-length}
-use Rattle.model_file.proofs.Whole.{length-pattern}
-use Rattle.model_file.proofs.Within.{length-body}
+use Rattle.file_layout.specs.inner.Whole.{Whole}
+use Rattle.file_layout.proofs.Accepting.{file-refuses, laid, tab-clear, tab-refuses}
+use Rattle.file_layout.proofs.Fits.{fits-length}
+use Rattle.file_layout.proofs.Whole.{length-pattern}
+use Rattle.file_layout.proofs.Within.{length-body}
 use borrow.Author.Tests.{ltb-false}
 use Rattle.answer.specs.declared.Answer.{Answer}
 use Rattle.model.specs.declared.Shape.{Shape}

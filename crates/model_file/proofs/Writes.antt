@@ -24,12 +24,12 @@ use Rattle.model.proofs.Entries.{good-number, end-number}
 use Rattle.checks.specs.Rooms.{room}
 use Rattle.checks.specs.Checks.{roomTests}
 use Rattle.checks.proofs.Unsampled.{tables-let-through}
-use Rattle.model_file.specs.Layout.{count, size, offset, fileLength, first, layout, fileOf, bits, tableOf, modelFile}
-use Rattle.model_file.specs.Checks.{writeRooms}
+use Rattle.file_layout.specs.Layout.{count, size, offset, fileLength, first, layout, fileOf, bits, tableOf, modelFile}
+use Rattle.file_layout.specs.Checks.{writeRooms}
 use Rattle.model_file.specs.Call.{writeCheck, Written}
 use Rattle.model_file.specs.inner.Putting.{Numbers, Puttable, entryOf, contentsOf, bodiesOf}
-use Rattle.model_file.proofs.Bounds.{count-low, offset-none}
-use Rattle.model_file.proofs.Whole.{length-first, length-label, offset-next, offset-up}
+use Rattle.file_layout.proofs.Bounds.{count-low, offset-none}
+use Rattle.file_layout.proofs.Whole.{length-first, length-label, offset-next, offset-up}
 
 -- ---- a part after the other
 flat-next : (s j n : ℕ) (F : ℕ → List ℕ) (l cur next : List ℕ) → cur ≡ over s (flat n F) l → j ≡ s + length (flat n F)

@@ -14,9 +14,9 @@ use Rattle.model.specs.declared.Shape.{Shape}
 use Rattle.model.specs.Lent.{Tables}
 use Rattle.checks.specs.Checks.{shapeTests, checkTables}
 use Rattle.model_file.specs.declared.Reading.{Reading}
-use Rattle.model_file.specs.Layout.{fileLength, modelFile}
-use Rattle.model_file.specs.Reading.{shapeOf, modelIn}
-use Rattle.model_file.specs.Checks.{readTests, writeRooms}
+use Rattle.file_layout.specs.Layout.{fileLength, modelFile}
+use Rattle.file_layout.specs.Reading.{shapeOf, modelIn}
+use Rattle.file_layout.specs.Checks.{readTests, writeRooms}
 
 -- the four tables that a reader is lent, outputs 6 to 9
 pub record Outputs : Type 0 where

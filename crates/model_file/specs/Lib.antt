@@ -1,5 +1,2 @@
-pub mod Layout
-pub mod Reading
-pub mod Checks
 pub mod Call
 pub mod inner

@@ -1,15 +1,8 @@
 // The model file, read and written: little-endian, contents first, a sum for each table. What goes in is a file or a model; what comes out
 // is the answer, with the shape beside it from the reader, and the model or the file in lent memory. Refused, nothing is written.
-mod inspect;
-mod layout;
 mod pack;
 mod unpack;
 
-use crate::inspect::check_file;
-use crate::inspect::check_words;
-use crate::inspect::shape_of;
-use crate::layout::count;
-use crate::layout::offset;
 use crate::pack::put_bodies;
 use crate::pack::put_contents;
 use crate::pack::put_first;
@@ -22,12 +15,17 @@ use checks::check_entries;
 use checks::check_rooms;
 use checks::check_shape;
 use checks::check_sizes;
+use file_layout::inspect::check_file;
+use file_layout::inspect::check_words;
+use file_layout::inspect::shape_of;
+use file_layout::layout::count;
+use file_layout::layout::offset;
 use model::Shape;
 ghost use mathlib.Core.Path.{_≡_};
 ghost use Rattle.answer.specs.Checks.{firstOf};
 ghost use Rattle.model.specs.Lent.{tablesOf};
 ghost use Rattle.checks.specs.Checks.{checkTables};
-ghost use Rattle.model_file.specs.Checks.{readTests, writeRooms};
+ghost use Rattle.file_layout.specs.Checks.{readTests, writeRooms};
 ghost use Rattle.model_file.specs.Call.{noShape, outputs, Read, Written, lengthOf};
 
 // What a reader gives back: its answer, and the shape of the model that it read. Refused, the shape is that of no model.

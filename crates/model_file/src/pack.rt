@@ -1,7 +1,7 @@
 // From tables to a file's bytes, part by part. The caller shows that there is room and that no entry is NaN.
-use crate::layout::count;
-use crate::layout::flag;
-use crate::layout::offset;
+use file_layout::layout::count;
+use file_layout::layout::flag;
+use file_layout::layout::offset;
 use little_endian::put;
 use model::Shape;
 ghost use mathlib.Core.Path.{_≡_};
@@ -13,8 +13,8 @@ ghost use lib.Ieee.{nan, isNan, toBits, binary64};
 ghost use Rattle.lists.specs.Lists.{over};
 ghost use Rattle.little_endian.specs.Bytes.{bytes, sum};
 ghost use Rattle.model.specs.Lent.{tablesOf};
-ghost use Rattle.model_file.specs.Layout as Spec;
-ghost use Rattle.model_file.specs.Layout.{bits};
+ghost use Rattle.file_layout.specs.Layout as Spec;
+ghost use Rattle.file_layout.specs.Layout.{bits};
 ghost use Rattle.model.specs.Accepted.{InRange};
 ghost use Rattle.model_file.specs.inner.Putting.{Numbers, Puttable, entryOf, contentsOf, bodiesOf};
 

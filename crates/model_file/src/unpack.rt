@@ -1,6 +1,6 @@
 // From a file's words to tables: each is laid over the front of a lent one. The caller shows that the words are there and good.
-use crate::layout::offset;
-use crate::layout::size;
+use file_layout::layout::offset;
+use file_layout::layout::size;
 use little_endian::word_at;
 use model::Shape;
 ghost use mathlib.Core.Path.{_≡_};
@@ -9,7 +9,7 @@ ghost use lib.ListN.{length, replicate};
 ghost use Rattle.floats.specs.Float.{nought};
 ghost use Rattle.lists.specs.Lists.{part, over};
 ghost use Rattle.little_endian.specs.Bytes.{words};
-ghost use Rattle.model_file.specs.Reading.{bodyAt, floats, endAt};
+ghost use Rattle.file_layout.specs.Reading.{bodyAt, floats, endAt};
 ghost use Rattle.model_file.specs.inner.Laying.{Layable, Laying, LayingEnd};
 
 // Lays n words from byte `at` on over the front of a table, as floats.

@@ -12,10 +12,10 @@ use Rattle.floats.specs.Float.{_⊕_, _⊖_, capped}
 use Rattle.floats.proofs.Add.{capped-le, capped-num}
 use Rattle.floats.proofs.Largest.{largest}
 use Rattle.floats.proofs.Ceiling.{most, lid, lid-add, double, two-lids, double-add, less-largest}
-use Rattle.probs.specs.Sum.{Numbers}
-use Rattle.probs.specs.Pair.{lnAdd}
-use Rattle.probs.proofs.Bounds.{lnSum-above, lnSum-capped, lnSum-fits}
-use Rattle.probs.proofs.Pairs.{lnAdd-capped, lnAdd-fits, lnSub-capped}
+use Rattle.sums.specs.Sum.{Numbers}
+use Rattle.sums.specs.Pair.{lnAdd}
+use Rattle.sums.proofs.Bounds.{lnSum-above, lnSum-capped, lnSum-fits}
+use Rattle.sums.proofs.Pairs.{lnAdd-capped, lnAdd-fits, lnSub-capped}
 use Rattle.model.specs.Model.{sampleAt}
 use Rattle.occupancy.specs.Occupancy.{Walks, occupancy, lastOccupancy, gamma, emitted, denominator, arc, arcSum}
 

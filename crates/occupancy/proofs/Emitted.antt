@@ -11,7 +11,7 @@ use lib.ListN.{set, replicate, length-replicate, getD-replicate, length-set}
 use lib.Seq.{getD-set-same, getD-set-other}
 use lib.Ieee.{Float}
 use Rattle.floats.specs.Float.{at, minusInfinity}
-use Rattle.probs.specs.Pair.{lnAdd}
+use Rattle.sums.specs.Pair.{lnAdd}
 use Rattle.model.specs.Model.{sampleAt}
 use Rattle.occupancy.specs.Occupancy.{Walks, occupancy, emitted}
 use Rattle.occupancy.specs.inner.Rows.{Holds}

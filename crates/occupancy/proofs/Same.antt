@@ -7,8 +7,8 @@ use mathlib.Core.List.{List}
 use lib.Dec.{eqb}
 use lib.Ieee.{Float}
 use Rattle.floats.specs.Float.{_⊕_, _⊖_, isMinusInfinity}
-use Rattle.probs.specs.Pair.{lnAdd, lnSub}
-use Rattle.probs.proofs.Loops.{lnSum-same}
+use Rattle.sums.specs.Pair.{lnAdd, lnSub}
+use Rattle.sums.proofs.Loops.{lnSum-same}
 use Rattle.model.specs.Model.{sampleAt}
 use Rattle.occupancy.specs.Occupancy.{Walks, occupancy, lastOccupancy, gamma, emitted, denominator, massless, arc, arcSum}
 

@@ -6,8 +6,8 @@ use mathlib.Core.List.{List}
 use lib.Dec.{eqb}
 use lib.Ieee.{Float}
 use Rattle.floats.specs.Float.{_⊕_, _⊖_, minusInfinity, isMinusInfinity}
-use Rattle.probs.specs.Sum.{lnSum}
-use Rattle.probs.specs.Pair.{lnAdd, lnSub}
+use Rattle.sums.specs.Sum.{lnSum}
+use Rattle.sums.specs.Pair.{lnAdd, lnSub}
 use Rattle.model.specs.Model.{sampleAt}
 
 -- what both walks over n samples found: alpha of each time and state, beta's rows of which row r is of time n - 1 - r, and the likelihood

@@ -1,14 +1,14 @@
 // How often each arc from state to state is taken.
 use crate::Pass;
 use model::entry;
-use probs::sum::Peak;
-use probs::sum::close;
-use probs::sum::no_peak;
-use probs::sum::plus_exp;
-use probs::sum::raise;
+use sums::sum::Peak;
+use sums::sum::close;
+use sums::sum::no_peak;
+use sums::sum::plus_exp;
+use sums::sum::raise;
 ghost use mathlib.Core.Path.{_≡_};
 ghost use Prim.Native.Nat.{_+_, _-_, _<_};
-ghost use Rattle.probs.specs.Sum.{peak, expSum};
+ghost use Rattle.sums.specs.Sum.{peak, expSum};
 ghost use Rattle.occupancy.specs.inner.Rows.{Readable, Holds, arcsOf, arcSumOf};
 
 // The arc from state i at time t to state j.

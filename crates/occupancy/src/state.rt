@@ -2,17 +2,17 @@
 use crate::Pass;
 use floats::is_minus_infinity;
 use model::entry;
-use probs::pair::ln_sub;
-use probs::sum::Peak;
-use probs::sum::close;
-use probs::sum::no_peak;
-use probs::sum::plus_exp;
-use probs::sum::raise;
+use sums::pair::ln_sub;
+use sums::sum::Peak;
+use sums::sum::close;
+use sums::sum::no_peak;
+use sums::sum::plus_exp;
+use sums::sum::raise;
 ghost use mathlib.Core.Path.{_≡_};
 ghost use mathlib.Core.Bool.{_||_};
 ghost use Prim.Native.Nat.{_<_};
 ghost use Rattle.floats.specs.Float.{isMinusInfinity};
-ghost use Rattle.probs.specs.Sum.{peak, expSum};
+ghost use Rattle.sums.specs.Sum.{peak, expSum};
 ghost use Rattle.occupancy.specs.Occupancy as Spec;
 ghost use Rattle.occupancy.specs.inner.Rows.{rowsOf, Standing};
 

@@ -3,7 +3,7 @@ use crate::Pass;
 use crate::state::occupancy;
 use floats::minus_infinity;
 use model::entry;
-use probs::pair::ln_add;
+use sums::pair::ln_add;
 ghost use Prim.Native.Nat.{ℕ, _<_};
 ghost use Rattle.occupancy.specs.Occupancy.{emitted};
 ghost use Rattle.occupancy.specs.inner.Rows.{rowsOf, Standing, Known, Holds};

@@ -12,14 +12,18 @@ use Rattle.model.specs.Lent.{Lent, T}
 use Rattle.model.specs.Model.{modelOf}
 use Rattle.best_path.specs.Walk.{bestPath, bestValue}
 use Rattle.checks.proofs.Done.{let-through, is-let-through}
-use Rattle.viterbi.specs.Call.{rooms, checked}
+use Rattle.viterbi.specs.Call.{Outputs, rooms, checked, Decoded}
 use Rattle.best_path.proofs.BestPath.{states-length}
 use Rattle.path_promises.specs.BestPath.{GivesTheBest}
 use Rattle.path_promises.specs.Calls.{Viterbi, ViterbiIsDone, Defined}
 use Rattle.path_promises.proofs.BestPath.{gives-the-best}
 use Rattle.checks.proofs.Left.{checks-done, front-is}
 
-defined : (l : Lent) (value : Float) (path : List ℕ) → Viterbi l value path → Defined l value path
+-- the checks of a call that is done are passed
+pub passed : (l : Lent) (o e : Outputs) (r : Answer) → Decoded l o r e → isDone r ≡ true → isDone (checked l o) ≡ true
+passed l o e r p d = checks-done (checked l o) (done (bestValue (modelOf l) (T l))) r (p .answer) d .0
+
+pub defined : (l : Lent) (value : Float) (path : List ℕ) → Viterbi l value path → Defined l value path
 defined l value path c =
     let o = c .lent in
     let v = bestValue (modelOf l) (T l) in

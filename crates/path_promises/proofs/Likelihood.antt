@@ -1,28 +1,44 @@
--- Forward is never below Viterbi: a sum is at least each of its terms, and the best predecessor's is one of them.
-use Prim.Native.Nat.{ℕ, zero, suc, _-_, _<_}
-use mathlib.Core.Path.{_≡_}
+-- Forward is never under Viterbi: a sum is at least each of its terms, and the best predecessor's is one of them. First by the definitions,
+-- then of calls.
+use Prim.Native.Nat.{ℕ, zero, suc, _+_, _*_, _-_, _<_}
+use mathlib.Core.Path.{_≡_, ap, _∙_}
 use mathlib.Core.Bool.{Bool, true, false}
+use mathlib.Core.List.{List}
 use native.Mathlib.Nat.{lt-suc-self}
 use native.Mathlib.Omega.{arith}
 use lib.Dec.{T}
+use lib.ListN.{length}
 use lib.Ieee.{Float, binary64, le, fits}
-use Rattle.floats.specs.Float.{_⊕_, capped}
+use Rattle.floats.specs.Float.{_⊕_, minusInfinity, at, capped}
 use Rattle.floats.proofs.Order.{le-self, le-le}
 use Rattle.floats.proofs.Add.{add-mono, add-ge}
 use Rattle.floats.proofs.Ceiling.{most, lid-add, lid-number, lid-capped}
 use Rattle.floats.proofs.PlusZero.{plus-zero-bounds}
+use Rattle.lists.specs.Lists.{tab, table, after}
+use Rattle.lists.proofs.Over.{length-tab, getD-tab}
+use Rattle.lists.proofs.Rows.{place-back}
+use Rattle.answer.specs.Answer.{isDone, done}
 use Rattle.model.specs.Lent as Lent
-use Rattle.model.specs.Lent.{Lent}
+use Rattle.model.specs.Lent.{Lent, S}
 use Rattle.model.specs.Good.{goodEnd}
 use Rattle.model.specs.Accepted.{Accepted}
 use Rattle.model.specs.Model.{Model, modelOf}
 use Rattle.model.proofs.Low.{Low, accepted-low}
+use Rattle.checks.proofs.Done.{let-through}
+use Rattle.checks.proofs.Left.{checks-done}
 use Rattle.best_path.specs.Walk.{cell, ended, closed, value, from, lastState, bestValue}
 use Rattle.best_path.proofs.States.{from-below, last-below}
 use Rattle.best_path.proofs.Bounds.{entry-capped, entry-itself}
+use Rattle.viterbi.specs.Call.{rooms}
 use Rattle.likelihood.specs.Walk.{alpha, forwardValue}
+use Rattle.likelihood.specs.Call.{checked}
 use Rattle.likelihood.proofs.Bounds.{alpha-lid, alpha-above, alpha-fits, forward-above}
-use Rattle.path_promises.specs.Likelihood.{ForwardIsAbove, LikelihoodIsAbove}
+use Rattle.path_promises.specs.BestPath.{Decoder}
+use Rattle.path_promises.specs.Calls.{Viterbi, Defined}
+use Rattle.path_promises.specs.Rival.{Beside}
+use Rattle.path_promises.specs.Likelihood.{ForwardIsAbove, LikelihoodIsAbove, Likely, NeverUnder, CellsNeverUnder}
+use Rattle.path_promises.proofs.Calls.{passed, defined}
+use Rattle.path_promises.proofs.Rival.{beside}
 
 module _ (m : Model) (n : ℕ) (low : Low m n) (some : 0 < m .states) where
   cells-above : (t j : ℕ) → t < n → j < m .states → T (le (value m t j) (alpha m t j))
@@ -74,3 +90,40 @@ pub likelihood-is-above : LikelihoodIsAbove
 likelihood-is-above l a some =
     let long : Lent.T l ≡ suc (Lent.T l - 1) = omega arith in
     rw long (value-above l a (Lent.T l - 1) long)
+
+-- ---- of calls
+-- what a done call of `forward` answers and leaves, by the definitions
+module _ (l : Lent) (x : Float) (values : List Float) (c : Likely l x values) where
+  is-checked : (isDone (checked true l (length (c .lent))) ≡ true) × (c .answer ≡ done (forwardValue (modelOf l) (Lent.T l)))
+  is-checked = checks-done (checked true l (length (c .lent))) _ (c .answer) (c .promised .answer) (c .done)
+
+  likelihood-is : x ≡ forwardValue (modelOf l) (Lent.T l)
+  likelihood-is = c .likelihoodIs ∙ ap (λ r. r .value) (is-checked .1)
+
+-- a way to decode that gives what is defined
+never-under : (gives : Decoder) → ((l : Lent) (value : Float) (path : List ℕ) → gives l value path → Defined l value path) → NeverUnder gives
+never-under gives by-definition l v x path values g c =
+    let d = by-definition l v path g in
+    rw (d .valueIs, likelihood-is l x values c) (likelihood-is-above l (d .accepted) (d .someSample))
+
+pub viterbi-never-under : NeverUnder Viterbi
+viterbi-never-under = never-under Viterbi defined
+
+pub rival-never-under : NeverUnder Beside
+rival-never-under = never-under Beside beside
+
+-- place j of row t, as a call that is done has left it
+left-at : (b : Bool) (n s : ℕ) (f : ℕ → ℕ → Float) (o e : List Float) → e ≡ after b (table n s f) o → b ≡ true
+    → (t j : ℕ) → t < n → j < s → at e (t * s + j) ≡ f t j
+left-at b n s f o e h d t j i k =
+    let laid = h ∙ ap (λ (z : Bool). after z (table n s f) o) d in
+    place-back n t s j (λ (r : ℕ). tab s (f r)) o e minusInfinity (λ (r : ℕ). length-tab s (f r)) laid i k ∙ getD-tab s (f t) j minusInfinity k
+
+pub cells-never-under : CellsNeverUnder
+cells-never-under l o e r x values p d c t j i k =
+    let b = passed l o e r p d in
+    let a = let-through false (rooms l o) l b .accepted in
+    rw (
+      left-at _ (Lent.T l) (S l) (value (modelOf l)) (o .values) (e .values) (p .values) b t j i k,
+      left-at _ (Lent.T l) (S l) (alpha (modelOf l)) (c .lent) values (c .promised .values) (is-checked l x values c .0) t j i k,
+    ) (forward-is-above l a t j i k)

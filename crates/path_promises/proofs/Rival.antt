@@ -1,7 +1,7 @@
 -- What a call of `rival` tells is the strongest rival, and it is refused with 15 exactly when there is none.
 use Prim.Native.Nat.{ℕ, suc, _-_, _≤_, _<_}
 use mathlib.Core.Path.{_≡_, refl, sym, ap, subst, _∙_}
-use mathlib.Core.Bool.{Bool, true, false, true≢false, cond, not}
+use mathlib.Core.Bool.{Bool, true, false, true≢false, cond}
 use mathlib.Core.List.{List}
 use native.Mathlib.Omega.{arith}
 use borrow.Author.Tests.{ltb-true, lt-ltb, not-false}
@@ -180,7 +180,7 @@ module _ (q : Asked) (r : Rivalry) (path rivalPath : List ℕ) (d : Done q r pat
 pub rival-is-strongest : RivalIsStrongest
 rival-is-strongest q r path rivalPath d = (is-strongest q r path rivalPath d, has-ties q r path rivalPath d)
 
-beside : (l : Lent) (value : Float) (path : List ℕ) → Beside l value path → Defined l value path
+pub beside : (l : Lent) (value : Float) (path : List ℕ) → Beside l value path → Defined l value path
 beside l value path b =
     let q = asked l (b .index) in
     record {

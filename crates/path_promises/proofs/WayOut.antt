@@ -7,15 +7,13 @@ use lib.ListN.{take}
 use lib.Ieee.{Float}
 use Rattle.floats.specs.Float.{at}
 use Rattle.lists.specs.Lists.{table, after}
-use Rattle.answer.specs.Answer.{isDone, done}
-use Rattle.answer.specs.declared.Answer.{Answer}
 use Rattle.model.specs.Lent.{Lent, S, T}
 use Rattle.model.specs.Model.{Model, tabled, modelOf}
 use Rattle.best_path.specs.Best.{predecessor}
-use Rattle.best_path.specs.Walk.{cell, value, from, bestValue}
-use Rattle.viterbi.specs.Call.{Outputs, checked, Decoded}
+use Rattle.best_path.specs.Walk.{cell, value, from}
 use Rattle.path_promises.specs.WayOut.{SameButForTheEnd, EndMovesNoRow}
-use Rattle.checks.proofs.Left.{checks-done, rows-front}
+use Rattle.path_promises.proofs.Calls.{passed}
+use Rattle.checks.proofs.Left.{rows-front}
 
 -- ---- a model with another end
 module _ (l : Lent) (ends : Bool) (end : ℕ → Float) where
@@ -57,10 +55,6 @@ module _ (l l' : Lent) (q : SameButForTheEnd l l') where
   rows-same f f' same b b' d d' o e o' e' h h' =
       rows-front b (T l) (S l) f o e h d
       ∙ rw (same, q .samples, q .states) (sym (rows-front b' (T l') (S l') f' o' e' h' d'))
-
--- the checks of a call that is done are passed
-passed : (l : Lent) (o e : Outputs) (r : Answer) → Decoded l o r e → isDone r ≡ true → isDone (checked l o) ≡ true
-passed l o e r p d = checks-done (checked l o) (done (bestValue (modelOf l) (T l))) r (p .answer) d .0
 
 pub end-moves-no-row : EndMovesNoRow
 end-moves-no-row l l' o e o' e' r r' q p d p' d' =

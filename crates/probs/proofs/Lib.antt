@@ -1,8 +1,2 @@
-pub mod Loops
-pub mod Terms
-pub mod Peaks
-pub mod Domains
-pub mod Bounds
-pub mod Pairs
 pub mod Factors
 pub mod Overshoot

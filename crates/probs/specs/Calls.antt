@@ -13,8 +13,8 @@ use Rattle.answer.specs.Answer.{done, refuse, isDone}
 use Rattle.answer.specs.declared.Answer.{Answer}
 use Rattle.answer.specs.declared.Refusal.the-variants.{OutputTooShort, NotGood, NegativeDifference, Overshoot}
 use Rattle.kernels.specs.Binary.{decimal}
-use Rattle.probs.specs.Sum.{lnSum}
-use Rattle.probs.specs.Pair.{lnAdd, lnSub, lnCumsum}
+use Rattle.sums.specs.Sum.{lnSum}
+use Rattle.sums.specs.Pair.{lnAdd, lnSub, lnCumsum}
 
 -- the numbers that a call is handed, as a lent slice or as its arguments in order: the answer a, unless one of them is NaN
 unfoldable pub unlessNan : List Float → Answer → Answer

@@ -2,25 +2,22 @@
 // lent slices and hands back an Answer. Where the Rust panics or gives NaN it refuses; a NaN is 7 at table 0, at its argument's number
 // from 0 or its index in a slice. The sum itself is in sum, and what two numbers make in pair. Left out: operators, integration, cdf,
 // log10 and powf.
-pub mod pair;
-pub mod sum;
-
 use answer::Answer;
 use answer::Refusal;
 use answer::done;
 use answer::refused;
 use floats::is_number;
 use floats::minus_infinity;
-use pair::ln_add;
-use pair::ln_sub;
-use sum::ln_sum;
+use sums::pair::ln_add;
+use sums::pair::ln_sub;
+use sums::sum::ln_sum;
 ghost use mathlib.Core.Path.{_≡_};
 ghost use Prim.Native.Nat.{_≤_};
 ghost use lib.ListN.{length};
 ghost use Rattle.floats.specs.Float.{minusInfinity, isNumber, at};
 ghost use Rattle.lists.specs.Lists.{firstBad, over};
 ghost use Rattle.kernels.specs.Calls.{expAnswer, lnAnswer, ln1mAnswer};
-ghost use Rattle.probs.specs.Pair.{lnCumsum};
+ghost use Rattle.sums.specs.Pair.{lnCumsum};
 ghost use Rattle.probs.specs.Calls.{isValid, checkedAnswer, capAnswer, lnSumExpAnswer, lnAddExpAnswer, lnSubExpAnswer};
 ghost use Rattle.probs.specs.Calls.{Cumulated, cumsums, scaledAnswer, logToPhred, phredToLog};
 

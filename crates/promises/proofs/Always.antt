@@ -40,9 +40,9 @@ use Rattle.baum_welch.specs.Pass.{newTransition, newEmission, newInitial, newEn
 use Rattle.baum_welch.specs.Call as BaumWelch
 use Rattle.baum_welch.specs.Call.{massTests, massCheck, massAnswer, walksOf, Trained}
 use Rattle.model_file.specs.declared.Reading.{Reading}
-use Rattle.model_file.specs.Layout.{modelFile}
-use Rattle.model_file.specs.Reading.{shapeOf, modelIn}
-use Rattle.model_file.specs.Checks.{readRooms, readTests, writeRooms}
+use Rattle.file_layout.specs.Layout.{modelFile}
+use Rattle.file_layout.specs.Reading.{shapeOf, modelIn}
+use Rattle.file_layout.specs.Checks.{readRooms, readTests, writeRooms}
 use Rattle.file_laws.specs.Faults.{tooShort, badLayout, badSums, badWords, readFaults}
 use Rattle.model_file.specs.Call as File
 use Rattle.model_file.specs.Call.{noShape, readCheck, Read, writeCheck, Written}

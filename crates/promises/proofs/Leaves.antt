@@ -24,12 +24,12 @@ use Rattle.kernels.specs.Ln1m.{ln1mOf}
 use Rattle.kernels.proofs.ExpLaws.{exp-le-one}
 use Rattle.kernels.proofs.LnLaws.{ln-number}
 use Rattle.kernels.proofs.Ln1mLaws.{ln1m-number}
-use Rattle.probs.specs.Sum.{Numbers}
-use Rattle.probs.specs.Pair.{lnCumsum}
+use Rattle.sums.specs.Sum.{Numbers}
+use Rattle.sums.specs.Pair.{lnCumsum}
 use Rattle.probs.specs.Calls.{unlessNan, isProbability, checkedAnswer, overshoots, capAnswer, lnSubExpAnswer, lnCumsumExpAnswer}
 use Rattle.probs.specs.Calls.{Cumulated, scaledAnswer, logToPhred, phredToLog}
-use Rattle.probs.proofs.Bounds.{lnSum-number}
-use Rattle.probs.proofs.Pairs.{lnAdd-number, lnSub-number, lnCumsum-number}
+use Rattle.sums.proofs.Bounds.{lnSum-number}
+use Rattle.sums.proofs.Pairs.{lnAdd-number, lnSub-number, lnCumsum-number}
 use Rattle.model.specs.Accepted.{Every}
 use Rattle.checks.proofs.Tests.{every}
 use Rattle.promises.specs.NoNan.{Numeric, NoNanFromLeaves}

@@ -25,7 +25,7 @@ use Rattle.occupancy.specs.Occupancy.{Walks, massless}
 use Rattle.baum_welch.specs.Call as BaumWelch
 use Rattle.baum_welch.specs.Call.{Trained, walksOf}
 use Rattle.model_file.specs.declared.Reading.{Reading}
-use Rattle.model_file.specs.Checks.{writeRooms}
+use Rattle.file_layout.specs.Checks.{writeRooms}
 use Rattle.file_laws.specs.Faults.{badWords, readFaults}
 use Rattle.model_file.specs.Call as File
 use Rattle.model_file.specs.Call.{Read, Written}

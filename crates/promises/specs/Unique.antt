@@ -22,14 +22,14 @@ use Rattle.kernels.specs.Ln1m.{ln1mOf}
 use Rattle.kernels.specs.Calls.{expAnswer, lnAnswer, ln1mAnswer}
 use Rattle.probs.specs.Calls.{isValid, checkedAnswer, capAnswer, lnSumExpAnswer, lnAddExpAnswer, lnSubExpAnswer}
 use Rattle.probs.specs.Calls.{Cumulated, scaledAnswer, logToPhred, phredToLog}
-use Rattle.probs.specs.Pair.{lnAdd, lnSub}
-use Rattle.probs.specs.Sum.{noPeak, raised, plusExp, grown, lnSum}
-use Rattle.probs.specs.inner.Open.{opened, closedSum}
+use Rattle.sums.specs.Pair.{lnAdd, lnSub}
+use Rattle.sums.specs.Sum.{noPeak, raised, plusExp, grown, lnSum}
+use Rattle.sums.specs.inner.Open.{opened, closedSum}
 use Rattle.probs.specs.declared.Prob.{Prob}
 use Rattle.probs.specs.declared.LogProb.{LogProb}
 use Rattle.probs.specs.declared.PHREDProb.{PHREDProb}
-use Rattle.probs.specs.declared.sum.Peak.{Peak}
-use Rattle.probs.specs.declared.sum.Open.{Open}
+use Rattle.sums.specs.declared.sum.Peak.{Peak}
+use Rattle.sums.specs.declared.sum.Open.{Open}
 use Rattle.model.specs.declared.Shape.{Shape}
 use Rattle.model.specs.Lent.{Tables, Lent, T, tablesOf, lent}
 use Rattle.model.specs.Good.{good, goodEnd, goodBits}

@@ -21,6 +21,8 @@ fn main() {
     rivals::model_p();
     rivals::one_state();
     rivals::model_z();
+    paths::model_a();
+    walks::model_a();
     leaves::kernels();
     leaves::sums();
     files::model_p();

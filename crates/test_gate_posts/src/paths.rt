@@ -1,8 +1,10 @@
-// The examples of `viterbi`: P1 to P6, E1 to E3, Z1 and Z3.
+// The examples of `viterbi`: P1 to P6, E1 to E3, Z1, Z3 and A1.
 use crate::models::EMISSION;
 use crate::models::INITIAL;
+use crate::models::TINY;
 use crate::models::TRANSITION;
 use crate::models::shape;
+use crate::models::single;
 use crate::print::answer;
 use crate::print::states;
 use answer::Answer;
@@ -155,6 +157,23 @@ pub fn no_beginning() {
         shape(3, false),
         &transition[..],
         &emission[..],
+        &initial[..],
+        &end[..],
+        &samples[..],
+    );
+}
+
+// A1: model A, two samples.
+pub fn model_a() {
+    let tiny = [TINY; 1];
+    let initial = [-1.0];
+    let end = [0.0];
+    let samples: [u16; 2] = [0, 0];
+    decode(
+        b"A1 viterbi",
+        single(),
+        &tiny[..],
+        &tiny[..],
         &initial[..],
         &end[..],
         &samples[..],

@@ -3,6 +3,7 @@ use crate::models::EMISSION;
 use crate::models::INITIAL;
 use crate::models::TRANSITION;
 use crate::models::shape;
+use crate::models::single;
 use crate::print::answer;
 use crate::print::states;
 use model::Shape;
@@ -85,16 +86,11 @@ pub fn model_p() {
 
 // R5: one state alone.
 pub fn one_state() {
-    let shape = Shape {
-        states: 1,
-        symbols: 1,
-        ends: false,
-    };
     let table = [0.0; 1];
     let samples: [u16; 1] = [0];
     tell(
         b"R5",
-        shape,
+        single(),
         &table[..],
         &table[..],
         &table[..],

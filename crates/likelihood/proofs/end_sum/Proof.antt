@@ -7,7 +7,7 @@ use mathlib.Core.Path.{sym, ap₂}
 use Rattle.floats.specs.Float.{_⊕_}
 use Rattle.lists.proofs.Laid.{Laid, laid-none, laid-more, laid-done}
 use lib.Seq.{length-take-le}
-use Rattle.probs.proofs.Terms.{sum-front}
+use Rattle.sums.proofs.Terms.{sum-front}
 use Rattle.likelihood.specs.inner.Sum.{ending}
 use Rattle.likelihood.proofs.end_sum.Statement.{statement}
 use Rattle.likelihood.proofs.end_sum.Tie as tie

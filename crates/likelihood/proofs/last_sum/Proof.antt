@@ -1,7 +1,7 @@
 -- `likelihood::last_sum` meets its contract, by its one test.
 use borrow.Author.Needs.{needs}
 use mathlib.Core.Path.{_∙_}
-use Rattle.probs.proofs.Loops.{closed-done}
+use Rattle.sums.proofs.Loops.{closed-done}
 use Rattle.likelihood.specs.inner.Sum.{lastSum}
 use Rattle.likelihood.proofs.Strides.{last-readable, last-backward}
 use Rattle.likelihood.proofs.last_sum.Statement.{statement}

@@ -8,8 +8,8 @@ use lib.ListN.{take, drop}
 use lib.Ieee.{Float}
 use Rattle.lists.proofs.Over.{length-part}
 use Rattle.lists.proofs.Laid.{Laid, laid-none, laid-more, laid-done}
-use Rattle.probs.specs.inner.Open.{closedSum}
-use Rattle.probs.proofs.Loops.{closed-done}
+use Rattle.sums.specs.inner.Open.{closedSum}
+use Rattle.sums.proofs.Loops.{closed-done}
 use Rattle.likelihood.specs.inner.Row.{cellOf}
 use Rattle.likelihood.proofs.next_row.Statement.{statement}
 use Rattle.likelihood.proofs.next_row.Tie as tie

@@ -5,8 +5,8 @@ use native.Mathlib.Nat.{zero-add}
 use Prim.Native.Nat.{ℕ, _-_}
 use mathlib.Core.Path.{sym, ap}
 use Rattle.lists.proofs.Laid.{Laid, laid-none, laid-more, laid-holds}
-use Rattle.probs.specs.declared.sum.Open.{Open}
-use Rattle.probs.specs.inner.Open.{opened}
+use Rattle.sums.specs.declared.sum.Open.{Open}
+use Rattle.sums.specs.inner.Open.{opened}
 use Rattle.likelihood.specs.inner.Row.{cellTerm}
 use Rattle.likelihood.proofs.open_row.Statement.{statement}
 use Rattle.likelihood.proofs.open_row.Tie as tie

@@ -9,8 +9,8 @@ use lib.Ieee.{Float, nan}
 use Rattle.floats.specs.Float.{_⊕_, at}
 use Rattle.lists.specs.Lists.{tab, over}
 use Rattle.lists.specs.inner.Holds.{Holds}
-use Rattle.probs.specs.Sum.{lnSum}
-use Rattle.probs.specs.inner.Open.{opened}
+use Rattle.sums.specs.Sum.{lnSum}
+use Rattle.sums.specs.inner.Open.{opened}
 use Rattle.model.specs.Model.{transitionOf}
 use Rattle.emission.specs.inner.Row.{firstRow, Beginning}
 

@@ -7,7 +7,7 @@ use mathlib.Core.List.{List}
 use lib.ListN.{length}
 use lib.Ieee.{Float}
 use Rattle.floats.specs.Float.{_⊕_, at}
-use Rattle.probs.specs.Sum.{lnSum}
+use Rattle.sums.specs.Sum.{lnSum}
 use Rattle.likelihood.specs.declared.Stride.{Stride}
 
 -- entry k of those that a stride picks from a table

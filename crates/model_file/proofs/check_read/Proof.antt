@@ -6,9 +6,9 @@ use native.Mathlib.Omega.{arith}
 use borrow.Author.Needs.{needs}
 use denote.Ref.{now}
 use Rattle.answer.proofs.Checks.{Clear}
-use Rattle.model_file.specs.Checks.{fileTests}
-use Rattle.model_file.specs.inner.Whole.{Whole}
-use Rattle.model_file.proofs.Bounds.{square-small, product-small}
+use Rattle.file_layout.specs.Checks.{fileTests}
+use Rattle.file_layout.specs.inner.Whole.{Whole}
+use Rattle.file_layout.proofs.Bounds.{square-small, product-small}
 use Rattle.model_file.proofs.ReadChecks.{clear-whole, clear-enough, read-file, passed-file, read-rooms, read-words}
 use Rattle.model_file.proofs.check_read.Statement.{statement}
 use Rattle.model_file.proofs.check_read.Tie as tie

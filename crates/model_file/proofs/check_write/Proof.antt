@@ -10,8 +10,8 @@ use Rattle.answer.proofs.Checks.{Clear}
 use Rattle.model.specs.Lent.{Tables, tablesOf}
 use Rattle.checks.specs.Checks.{shapeTests, roomTests, tableRooms}
 use Rattle.checks.proofs.Unsampled.{sizes-answer, sizes-clear, sizes-in-range, outputs-answer, entries-answer}
-use Rattle.model_file.specs.Checks.{writeRooms}
-use Rattle.model_file.proofs.Bounds.{count-high}
+use Rattle.file_layout.specs.Checks.{writeRooms}
+use Rattle.file_layout.proofs.Bounds.{count-high}
 use Rattle.model_file.proofs.Writes.{needs-room}
 use Rattle.model_file.proofs.check_write.Statement.{statement}
 use Rattle.model_file.proofs.check_write.Tie as tie

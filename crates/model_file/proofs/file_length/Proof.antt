@@ -7,10 +7,10 @@ use Rattle.answer.specs.Answer.{isDone}
 use Rattle.answer.specs.Checks.{firstOf}
 use Rattle.model.specs.Accepted.{InRange}
 use Rattle.checks.specs.Checks.{shapeTests}
-use Rattle.model_file.specs.Layout.{offset}
+use Rattle.file_layout.specs.Layout.{offset}
 use Rattle.model_file.specs.Call.{lengthOf}
-use Rattle.model_file.proofs.Bounds.{count-high}
-use Rattle.model_file.proofs.FileChecks.{file-range}
+use Rattle.file_layout.proofs.Bounds.{count-high}
+use Rattle.file_layout.proofs.FileChecks.{file-range}
 use Rattle.model_file.proofs.file_length.Statement.{statement}
 use Rattle.model_file.proofs.file_length.Tie as tie
 

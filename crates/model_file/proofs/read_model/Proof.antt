@@ -11,7 +11,7 @@ use borrow.Author.Tests.{not-true, not-false}
 use denote.Ref.{now}
 use Rattle.answer.specs.Answer.{isDone}
 use Rattle.model_file.specs.Call.{Outputs, outputs, readCheck}
-use Rattle.model_file.proofs.Bounds.{count-low}
+use Rattle.file_layout.proofs.Bounds.{count-low}
 use Rattle.model_file.proofs.ReadChecks.{clear-enough, Readable, read-done, laying, laying-end, is-refused, is-read}
 use Rattle.model_file.proofs.read_model.Statement.{statement}
 use Rattle.model_file.proofs.read_model.Tie as tie

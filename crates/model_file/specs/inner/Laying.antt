@@ -9,9 +9,9 @@ use Rattle.lists.specs.Lists.{part, firstBad}
 use Rattle.little_endian.specs.Bytes.{words}
 use Rattle.model.specs.declared.Shape.{Shape}
 use Rattle.model.specs.Good.{goodBits}
-use Rattle.model_file.specs.Layout.{count, size}
-use Rattle.model_file.specs.Reading.{bodyAt}
-use Rattle.model_file.specs.inner.Whole.{Whole}
+use Rattle.file_layout.specs.Layout.{count, size}
+use Rattle.file_layout.specs.Reading.{bodyAt}
+use Rattle.file_layout.specs.inner.Whole.{Whole}
 
 -- n words from byte `at` on
 pub record Layable (file : List ℕ) (at n : ℕ) (table : List Float) : Type 0 where

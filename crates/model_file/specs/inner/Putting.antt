@@ -10,7 +10,7 @@ use Rattle.lists.specs.Lists.{flat}
 use Rattle.little_endian.specs.Bytes.{little, bytes, sum}
 use Rattle.model.specs.declared.Shape.{Shape}
 use Rattle.model.specs.Lent.{Tables}
-use Rattle.model_file.specs.Layout.{count, size, fileLength, label, bits, tableOf}
+use Rattle.file_layout.specs.Layout.{count, size, fileLength, label, bits, tableOf}
 use Rattle.model.specs.Accepted.{InRange}
 
 -- no entry is NaN, whose bits are not one number

@@ -4,7 +4,7 @@ use native.Mathlib.Omega.{arith}
 use borrow.Author.Needs.{needs}
 use denote.Ref.{now}
 use Rattle.model.specs.Lent.{Tables, tablesOf}
-use Rattle.model_file.proofs.Bounds.{count-low}
+use Rattle.file_layout.proofs.Bounds.{count-low}
 use Rattle.model_file.proofs.Writes.{contents-3, contents-4, entries-room, entry-room-1, entry-room-2, entry-room-3}
 use Rattle.model_file.proofs.pack.put_contents.Statement.{statement}
 use Rattle.model_file.proofs.pack.put_contents.Tie as tie

@@ -6,9 +6,9 @@ use denote.Ref.{now}
 use mathlib.Core.List.{List}
 use lib.Ieee.{Float}
 use Rattle.lists.specs.Lists.{over}
-use Rattle.model_file.specs.Reading.{floats}
-use Rattle.model_file.proofs.Bounds.{count-high}
-use Rattle.model_file.proofs.Within.{body-read, body-within, good-read}
+use Rattle.file_layout.specs.Reading.{floats}
+use Rattle.file_layout.proofs.Bounds.{count-high}
+use Rattle.file_layout.proofs.Within.{body-read, body-within, good-read}
 use Rattle.model_file.proofs.unpack.lay_table.Statement.{statement}
 use Rattle.model_file.proofs.unpack.lay_table.Tie as tie
 

@@ -1,6 +1,6 @@
 -- `occupancy::arc::arc_sum` meets its contract: the two loops of one sum.
 use borrow.Author.Needs.{needs}
-use Rattle.probs.proofs.Loops.{sum-done}
+use Rattle.sums.proofs.Loops.{sum-done}
 use Rattle.occupancy.specs.Occupancy.{arcSum}
 use Rattle.occupancy.proofs.arc.arc_sum.Statement.{statement}
 use Rattle.occupancy.proofs.arc.arc_sum.Tie as tie

@@ -2,7 +2,7 @@
 use borrow.Author.Needs.{needs}
 use native.Mathlib.Omega.{arith}
 use Prim.Native.Nat.{_-_}
-use Rattle.probs.proofs.Loops.{Pass1, pass1-none, pass1-more, pass1-done}
+use Rattle.sums.proofs.Loops.{Pass1, pass1-none, pass1-more, pass1-done}
 use Rattle.occupancy.specs.inner.Rows.{arcsOf}
 use Rattle.occupancy.proofs.arc.greatest.Statement.{statement}
 use Rattle.occupancy.proofs.arc.greatest.Tie as tie

@@ -3,7 +3,7 @@ use borrow.Author.Needs.{needs}
 use native.Mathlib.Omega.{arith}
 use Prim.Native.Nat.{_-_}
 use lib.Ieee.{ofBits}
-use Rattle.probs.proofs.Loops.{Pass2, pass2-none, pass2-more, pass2-done}
+use Rattle.sums.proofs.Loops.{Pass2, pass2-none, pass2-more, pass2-done}
 use Rattle.occupancy.specs.inner.Rows.{arcsOf}
 use Rattle.occupancy.proofs.arc.sum_others.Statement.{statement}
 use Rattle.occupancy.proofs.arc.sum_others.Tie as tie

@@ -1,6 +1,6 @@
 -- `occupancy::state::gamma` meets its contract: the two loops of one sum.
 use borrow.Author.Needs.{needs}
-use Rattle.probs.proofs.Loops.{sum-done}
+use Rattle.sums.proofs.Loops.{sum-done}
 use Rattle.occupancy.specs.Occupancy as Spec
 use Rattle.occupancy.proofs.state.gamma.Statement.{statement}
 use Rattle.occupancy.proofs.state.gamma.Tie as tie

@@ -1,7 +1,7 @@
 -- `occupancy::state::greatest` meets its contract. The loop's invariant, `Pass1`: best is the first greatest of the t that it has met.
 use borrow.Author.Needs.{needs}
 use Prim.Native.Nat.{_-_}
-use Rattle.probs.proofs.Loops.{Pass1, pass1-none, pass1-more, pass1-done}
+use Rattle.sums.proofs.Loops.{Pass1, pass1-none, pass1-more, pass1-done}
 use Rattle.occupancy.specs.Occupancy.{occupancy}
 use Rattle.occupancy.specs.inner.Rows.{rowsOf}
 use Rattle.occupancy.proofs.state.greatest.Statement.{statement}

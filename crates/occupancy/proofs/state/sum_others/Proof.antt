@@ -2,7 +2,7 @@
 use borrow.Author.Needs.{needs}
 use Prim.Native.Nat.{_-_}
 use lib.Ieee.{ofBits}
-use Rattle.probs.proofs.Loops.{Pass2, pass2-none, pass2-more, pass2-done}
+use Rattle.sums.proofs.Loops.{Pass2, pass2-none, pass2-more, pass2-done}
 use Rattle.occupancy.specs.Occupancy.{occupancy}
 use Rattle.occupancy.specs.inner.Rows.{rowsOf}
 use Rattle.occupancy.proofs.state.sum_others.Statement.{statement}

@@ -7,7 +7,7 @@ use denote.Ref.{now}
 use lib.ListN.{getD}
 use lib.Seq.{length-take-le, getD-take}
 use Rattle.floats.specs.Float.{minusInfinity}
-use Rattle.probs.specs.Pair.{lnAdd}
+use Rattle.sums.specs.Pair.{lnAdd}
 use Rattle.occupancy.specs.inner.Rows.{rowsOf}
 use Rattle.occupancy.proofs.Emitted.{Emitted, emitted-none, emitted-more}
 use Rattle.occupancy.proofs.symbol.emission_sums.Statement.{statement}

@@ -10,8 +10,8 @@ use lib.Ieee.{nan}
 use Rattle.floats.specs.Float.{at, minusInfinity}
 use Rattle.lists.specs.Lists.{tab, over}
 use Rattle.lists.proofs.Over.{getD-any, over-tab-none, over-tab-more}
-use Rattle.probs.specs.Pair.{lnCumsum}
-use Rattle.probs.proofs.Loops.{cumsum-none, cumsum-more}
+use Rattle.sums.specs.Pair.{lnCumsum}
+use Rattle.sums.proofs.Loops.{cumsum-none, cumsum-more}
 use Rattle.probs.proofs.LogProb.scan_ln_add_exp.Statement.{statement}
 use Rattle.probs.proofs.LogProb.scan_ln_add_exp.Tie as tie
 

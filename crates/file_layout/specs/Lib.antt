@@ -1,0 +1,4 @@
+pub mod Layout
+pub mod Reading
+pub mod Checks
+pub mod inner

@@ -1,0 +1,2 @@
+-- What only inner functions ask.
+pub mod Whole
