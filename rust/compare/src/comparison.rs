@@ -1,5 +1,6 @@
 //! What is compared with what, on which cases.
 
+mod likelihoods;
 mod model_files;
 mod rivals;
 
@@ -7,6 +8,7 @@ use crate::case::{self, Case, Sizes};
 use crate::damage::damaged;
 use crate::engine::{self, Engine, REFERENCE};
 use crate::lent::{lend, Call, CALLS};
+use crate::likelihood::Summary;
 use crate::random::Random;
 use crate::tally::Tally;
 use crate::verdict::Verdict;
@@ -43,6 +45,8 @@ pub struct Amount {
     /// Models of any size whose rivals are compared, and as many damaged ones; and small ones with all of their paths.
     pub rivals: usize,
     pub few_paths: usize,
+    /// Models on which the likelihood is close to the best path's value; eight have every kind once.
+    pub close: usize,
 }
 
 /// What there is to compare, and what was found.
@@ -51,6 +55,7 @@ pub struct Comparison {
     library: Option<Engine>,
     random: Random,
     tally: Tally,
+    gaps: Summary,
 }
 
 impl Comparison {
@@ -61,6 +66,7 @@ impl Comparison {
             library: engine::library(),
             random: Random::new(seed),
             tally: Tally::default(),
+            gaps: Summary::default(),
         };
         comparison.say_what_is_there();
         comparison.sizes(amount);
@@ -73,8 +79,11 @@ impl Comparison {
         comparison.entries(amount);
         comparison.model_files(amount);
         comparison.rivals(amount);
+        comparison.likelihoods(amount);
         println!();
         comparison.tally.print();
+        println!();
+        comparison.gaps.print();
         comparison.tally.wrong()
     }
 
@@ -100,7 +109,11 @@ impl Comparison {
     /// Adds a verdict on a case, and prints the first wrong one of its row, with the smallest case that shows it. Gives
     /// the refusal number that was answered.
     fn add(&mut self, row: &str, case: &Case, check: &dyn Fn(&Case) -> Verdict) -> u8 {
-        let verdict = check(case);
+        self.add_found(row, case, check(case), check)
+    }
+
+    /// The same of a verdict that this check found already.
+    fn add_found(&mut self, row: &str, case: &Case, verdict: Verdict, check: &dyn Fn(&Case) -> Verdict) -> u8 {
         if self.tally.add(row, &verdict) {
             let smallest = shrink::smallest(case, &|smaller| check(smaller).wrong.is_some());
             let shown = check(&smallest).wrong.unwrap_or_default();
@@ -129,6 +142,7 @@ impl Comparison {
             let row = "baum_welch: reference, bio with our kernels";
             self.add(row, case, &|case| likeness::pass(&bio, case));
         }
+        self.likelihood_of("", case);
     }
 
     /// Every call on lent memory.

@@ -33,7 +33,7 @@ pub fn ours_by(engine: &Engine, call: Call, case: &Case) -> Ours {
 }
 
 impl Ours {
-    fn answer(&self) -> &Answer {
+    pub fn answer(&self) -> &Answer {
         &self.given.answer
     }
 
@@ -52,7 +52,8 @@ impl Ours {
     }
 }
 
-fn bio_model(bio: &Bio, case: &Case) -> Box<dyn Walks> {
+/// bio's model of a case.
+pub fn bio_model(bio: &Bio, case: &Case) -> Box<dyn Walks> {
     (bio.model)(&case.model()).expect("the dimensions of a case are consistent")
 }
 

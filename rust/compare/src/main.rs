@@ -23,6 +23,7 @@ const DEFAULT: Amount = Amount {
     files: 8_192,
     rivals: 5_120,
     few_paths: 4_096,
+    close: 8_192,
 };
 
 const LONG: Amount = Amount {
@@ -41,6 +42,7 @@ const LONG: Amount = Amount {
     files: 65_536,
     rivals: 51_200,
     few_paths: 65_536,
+    close: 65_536,
 };
 
 fn main() -> ExitCode {

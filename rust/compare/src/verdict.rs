@@ -99,6 +99,31 @@ impl Verdict {
         }
     }
 
+    /// Compares two numbers of which ours must be at least theirs. Zeros of either sign are equal; NaN is at least nothing,
+    /// and nothing is at least NaN.
+    pub fn at_least(&mut self, what: &str, ours: f64, theirs: f64) {
+        self.numbers += 1;
+        let is_at_least = ours >= theirs;
+        if !is_at_least && self.wrong.is_none() {
+            let [our_bits, their_bits] = [ours, theirs].map(f64::to_bits);
+            self.wrong = Some(format!(
+                "{what}: {ours:e} ({our_bits:#018x}) is not at least {theirs:e} ({their_bits:#018x})"
+            ));
+        }
+    }
+
+    /// The same of two tables, place by place.
+    pub fn each_at_least(&mut self, what: &str, ours: &[f64], theirs: &[f64]) {
+        self.whole(what, ours.len() as u64, theirs.len() as u64);
+        for (place, (ours, theirs)) in ours.iter().zip(theirs).enumerate() {
+            if ours >= theirs {
+                self.numbers += 1;
+            } else {
+                self.at_least(&format!("{what} at {place}"), *ours, *theirs);
+            }
+        }
+    }
+
     /// Compares two answers.
     pub fn answer(&mut self, ours: &Answer, theirs: &Answer) {
         self.whole("refusal", u64::from(ours.refusal), u64::from(theirs.refusal));

@@ -261,6 +261,16 @@ fn the_end_entry_counts_in_the_choice_of_the_last_state() {
 }
 
 #[test]
+fn no_passage_is_less_likely_than_its_own_best_path() {
+    let mut case = zeros(1, 1, true, &[0]);
+    case.end[0] = -1.0;
+    assert_eq!((viterbi(&case).value, forward(&case).value), (-1.0, -1.0));
+    let Some(modes) = oracle::modes() else { return };
+    let bio = bio(&modes, &case);
+    assert_eq!((bio.viterbi(&[0]).1, bio.forward(&[0]).1), (0.0, -1.0));
+}
+
+#[test]
 fn absent_symbols_keep_their_column() {
     let case = zeros(1, 2, true, &[1]);
     let (answer, [_, emission, _, _]) = pass(&case);

@@ -9,6 +9,18 @@ const MINUS: f64 = f64::NEG_INFINITY;
 // As the rules write it, in decimal.
 #[allow(clippy::approx_constant)]
 const LN_2: f64 = 0.6931471805599453;
+/// 2^-53, half of the step from 1 to the next f64.
+const HALF: f64 = f64::EPSILON / 2.0;
+
+/// Model A.
+fn model_a() -> Tables {
+    Tables {
+        transition: vec![-HALF],
+        emission: vec![-HALF],
+        initial: vec![-1.0],
+        ..all_zero(1, 1)
+    }
+}
 
 fn decode(tables: &Tables, samples: &[u16]) -> (Vec<u8>, Answer) {
     let cells = tables.initial.len() * samples.len();
@@ -89,6 +101,21 @@ fn e3_without_an_end_state_nothing_is_added() {
     assert_decodes(&zeros, &[0], &[1], -0.0);
     zeros.ends = true;
     assert_decodes(&zeros, &[0], &[1], 0.0);
+}
+
+#[test]
+fn a1_the_likelihood_may_equal_the_best_path_s_value() {
+    let a = model_a();
+    assert_decodes(&a, &[0, 0], &[0, 0], -1.0);
+    assert_answer(forward(&a.model(), &[0, 0], &mut [0.0; 2]), 0, 0, 0, -1.0);
+}
+
+#[test]
+fn a2_backward_may_be_below_the_best_path_s_value() {
+    let below = f64::from_bits(0xbff0_0000_0000_0002);
+    assert_eq!(below, -1.0 - 4.0 * HALF);
+    assert!(below < -1.0);
+    assert_answer(backward(&model_a().model(), &[0, 0], &mut [0.0; 2]), 0, 0, 0, below);
 }
 
 #[test]

@@ -42,7 +42,8 @@ impl Decoded<'_> {
 
 /// The best path (RULES, section 6.1). Writes the path (T states), the value of each cell and the state before each cell
 /// (T·S each, by rows). With an end state the last state's end entry is added last, and the path ends in the
-/// highest-numbered state of the greatest sums; without one nothing is added.
+/// highest-numbered state of the greatest sums; without one nothing is added. [`forward`] never answers less on the same
+/// model and samples.
 ///
 /// ```
 /// use wasnugram::{viterbi, Model, Refusal, Shape, Table};
@@ -107,12 +108,16 @@ pub fn viterbi<'a>(
 
 /// How likely the samples are (RULES, section 6.2). Writes alpha (T·S, by rows); the value is the likelihood's logarithm.
 ///
+/// On the same model and samples it is **never under the value of [`viterbi`]**, nor is a cell of alpha under the cell of the
+/// same sample and state, with an end state or without one: it counts every path, the best one among them, and no rounding
+/// spoils that. The same is not promised of [`backward`], which adds from the other end.
+///
 /// ```
 /// # use wasnugram::{Model, Shape};
 /// # let half = [-0.6931471805599453; 4];
 /// # let shape = Shape { states: 2, symbols: 2, ends: false };
 /// # let model = Model { shape, transition: &half, emission: &half, initial: &half[..2], end: &[0.0; 2] };
-/// use wasnugram::{forward, is_possible, Refusal, Table};
+/// use wasnugram::{forward, is_possible, viterbi, Refusal, Table};
 ///
 /// // Two states and two symbols, and every probability is a half: so is that of one sample.
 /// let mut values = [0.0; 2];
@@ -120,6 +125,19 @@ pub fn viterbi<'a>(
 /// assert!(is_possible(value));
 /// assert_eq!(value, -0.6931471805599453);
 /// assert_eq!(values, [-1.3862943611198906; 2]);
+///
+/// // The likelihood beside the best path, and its cells beside that path's.
+/// let samples = [1, 0, 1];
+/// let (mut path, mut best_values, mut from, mut alpha) = ([0; 3], [0.0; 6], [0; 6], [0.0; 6]);
+/// let best = viterbi(&model, &samples, &mut path, &mut best_values, &mut from)?.value;
+/// let likelihood = forward(&model, &samples, &mut alpha)?;
+/// assert!(likelihood >= best);
+/// assert!(alpha.iter().zip(&best_values).all(|(alpha, value)| alpha >= value));
+/// // The share of the best path in the likelihood is at most 1: here eight paths are alike, so that it is an eighth. Where no
+/// // path explains the samples, there is none.
+/// let share = (best - likelihood).exp();
+/// assert!(share <= 1.0);
+/// assert!((share - 0.125).abs() < 1e-6);
 ///
 /// // Without a sample there is no last row to sum.
 /// let none = forward(&model, &[], &mut values).unwrap_err();
@@ -131,7 +149,8 @@ pub fn forward(model: &Model, samples: &[u16], values: &mut [f64]) -> Result<f64
 }
 
 /// The same from the last sample on (RULES, section 6.3). Writes beta (T·S, row i for sample T-1-i); the value is the
-/// likelihood's logarithm, minus infinity for no samples.
+/// likelihood's logarithm, minus infinity for no samples. It adds from the other end, so that it may differ from that of
+/// [`forward`] by rounding, and be below the value of [`viterbi`].
 ///
 /// ```
 /// # use wasnugram::{Model, Shape};

@@ -1,5 +1,5 @@
 //! `freeze FILE`: writes the frozen list (FROZEN.md), after holding each of its answers that bio can give against bio's,
-//! those on model files against the rule on bytes, and rivals against all paths too.
+//! those on model files against the rule on bytes, rivals against all paths too, and likelihoods beside best paths.
 
 use compare::case::{self, Case, Sizes, KINDS};
 use compare::damage;
@@ -9,6 +9,7 @@ use compare::frozen::{write, Frozen, FILL, FILLED, NAMES};
 use compare::grids;
 use compare::leaves::{argument, near, slice};
 use compare::lent::{Call, Output, CALLS};
+use compare::likelihood::{self, Walks, WALKS};
 use compare::likeness;
 use compare::model_file::{self, Lent};
 use compare::random::Random;
@@ -66,6 +67,7 @@ fn main() -> ExitCode {
     list.model_files();
     list.rivals();
     list.altered();
+    list.likelihoods();
     println!("{} cases", list.cases.len());
     match std::fs::write(&path, write(&list.cases)) {
         Ok(()) => ExitCode::SUCCESS,
@@ -132,7 +134,7 @@ impl List {
         }
     }
 
-    /// The models of the gate-post examples, but for E1 to E3, and of the intended differences, on all calls.
+    /// The models of the gate-post examples, but for E1 to E3 and A, and of the intended differences, on all calls.
     fn gate_posts(&mut self) {
         let [p, z] = [model_p(), zeros(2)];
         let mut unreachable = zeros(3);
@@ -338,6 +340,19 @@ impl List {
             let first = done.iter().find(|case| case.call == call).expect("a case that is done");
             self.cases.extend(first.altered());
         }
+    }
+
+    /// Likelihoods beside best paths: model A and others, on Viterbi, forward and backward; and those three on model A,
+    /// altered. They stand after all that was there before them, so that no earlier case has moved.
+    fn likelihoods(&mut self) {
+        let start = self.cases.len();
+        for case in likelihood::to_freeze() {
+            must_agree("likelihood", &Walks::by(&REFERENCE, &case).never_under());
+            WALKS.into_iter().for_each(|call| self.call(call, &case, 1));
+        }
+        let on_model_a = self.cases[start..start + WALKS.len()].to_vec();
+        let altered = on_model_a.iter().flat_map(Frozen::altered);
+        self.cases.extend(altered);
     }
 
     fn leaves_on(&mut self, x: f64, y: f64, xs: &[f64]) {

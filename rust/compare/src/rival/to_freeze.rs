@@ -4,21 +4,11 @@ use super::MINUS;
 use crate::case::Case;
 use crate::damage::Named;
 use crate::lent::Call;
+use crate::sketch::Sketch;
 use reference::answer::{
     BAD_INDEX, BAD_STATES, BAD_SYMBOLS, EMISSION, END, FIRST_OUTPUT, INITIAL, NOT_GOOD, NO_RIVAL, OUTPUT_TOO_SHORT,
     SAMPLES, TOO_MANY_SAMPLES, TRANSITION, UNKNOWN_SYMBOL, WRONG_LENGTH,
 };
-use reference::Shape;
-
-/// A model with as many states as initial entries and as many symbols as the emissions have columns, on samples. Without an
-/// end table there is no end state.
-struct Sketch {
-    initial: &'static [f64],
-    transition: &'static [f64],
-    emission: &'static [f64],
-    end: Option<&'static [f64]>,
-    samples: &'static [u16],
-}
 
 /// Models whose rivals differ from index to index, tie, or are not there. Each is frozen at every index.
 const SKETCHES: [Sketch; 22] = [
@@ -192,25 +182,6 @@ const SKETCHES: [Sketch; 22] = [
         samples: &[0, 1, 1, 0],
     },
 ];
-
-impl Sketch {
-    fn case(&self) -> Case {
-        let states = self.initial.len();
-        Case {
-            shape: Shape {
-                states,
-                symbols: self.emission.len() / states,
-                ends: self.end.is_some(),
-            },
-            transition: self.transition.to_vec(),
-            emission: self.emission.to_vec(),
-            initial: self.initial.to_vec(),
-            end: self.end.map_or(vec![0.0; states], <[f64]>::to_vec),
-            samples: self.samples.to_vec(),
-            index: 0,
-        }
-    }
-}
 
 /// The case at each of its indices.
 pub fn at_every_index(case: &Case) -> impl Iterator<Item = Case> + '_ {
