@@ -4,23 +4,18 @@
  * wrong, and the comparison has to see it. */
 #include <stdio.h>
 #include <string.h>
-#include "wasnugram.h"
-#include "random.h"
+#include "models.h"
 
 enum {
     SMALL_CASES = 20000,
     CASES = SMALL_CASES + 2000,
-    STATES = WASNUGRAM_MOST_STATES,
-    SYMBOLS = WASNUGRAM_MOST_SYMBOLS,
     SAMPLES = WASNUGRAM_MOST_SAMPLES,
     SURPLUS = 3,
     CELLS = STATES * SAMPLES + SURPLUS
 };
-#define MINUS_INFINITY (-__builtin_inf())
 
-/* The model and the question. No sample is the last symbol, so that its emissions are free for the sample at which a state is barred. */
-static wasnugram_shape shape;
-static double transition[STATES * STATES], emission[STATES * SYMBOLS], barred_emission[STATES * SYMBOLS], initial[STATES], end[STATES];
+/* The question. No sample is the last symbol, so that its emissions are free for the sample at which a state is barred. */
+static double barred_emission[STATES * SYMBOLS];
 static uint16_t samples[SAMPLES], barred_samples[SAMPLES];
 static size_t length, asked;
 
@@ -48,31 +43,6 @@ static uint64_t bits(double x) {
     return word;
 }
 
-/* A number of the case's kind: a small whole number, any good bits, or a number from -8 to 0; minus infinity now and then. */
-static double number(size_t kind) {
-    static const double small[] = { 0, -0.0, -1, -1, -2, -3, MINUS_INFINITY, -1 };
-    double x;
-    uint64_t word = good_bits();
-    if (kind == 0) return small[below(8)];
-    if (kind == 1) return below(16) ? -(double)(word >> 12) * 0x1p-49 : MINUS_INFINITY;
-    memcpy(&x, &word, sizeof x);
-    return x;
-}
-
-static void fill(double *table, size_t entries, size_t kind) {
-    for (size_t i = 0; i < entries; i++) table[i] = number(kind);
-}
-
-/* A model of this many states and symbols, of numbers of this kind; half of them with an end state. */
-static void set_model(size_t states, size_t symbols, size_t kind) {
-    shape = (wasnugram_shape){ states, symbols, (uint8_t)(below(2) ? 1 + below(255) : 0) };
-    fill(transition, states * states, kind);
-    fill(emission, states * symbols, kind);
-    fill(initial, states, kind);
-    memset(end, 0, sizeof end);
-    if (shape.ends) fill(end, states, kind);
-}
-
 static void set_samples(size_t n) {
     length = n, asked = below(n);
     for (size_t t = 0; t < n; t++) samples[t] = (uint16_t)below(shape.symbols - 1);
@@ -82,14 +52,14 @@ static void set_samples(size_t n) {
 static void set_case(size_t i) {
     size_t from_last = CASES - 1 - i;
     if (from_last < 3) {
-        set_model(STATES, SYMBOLS, 1 + from_last % 2);
+        set_model(STATES, SYMBOLS, from_last % 2 ? ANY : MODERATE);
         set_samples(SAMPLES);
         asked = from_last * (SAMPLES - 1) / 2;
     } else if (i < SMALL_CASES) {
-        set_model(1 + below(4), 2 + below(3), 0);
+        set_model(1 + below(4), 2 + below(3), WHOLE);
         set_samples(1 + below(5));
     } else {
-        set_model(1 + below(below(4) ? 6 : STATES), 2 + below(below(4) ? 6 : SYMBOLS - 1), below(3));
+        set_model(1 + below(below(4) ? 6 : STATES), 2 + below(below(4) ? 6 : SYMBOLS - 1), (enum kind)below(KINDS));
         set_samples(1 + below(40));
     }
 }

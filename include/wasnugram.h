@@ -409,7 +409,12 @@ wasnugram_rivalry wasnugram_rival(
  *
  *   output 5  values  T*S    entry t*S + j: alpha of state j at sample t
  *
- * The value is the likelihood's logarithm; minus infinity: the model cannot give these samples. No samples are refused with 4. */
+ * The value is the likelihood's logarithm; minus infinity: the model cannot give these samples. No samples are refused with 4.
+ *
+ * The best path's share. On the same tables and samples the value of a done call is never under wasnugram_viterbi's, and no cell (an entry
+ * of `values`) is under Viterbi's cell of the same sample and state, with an end state or without; they may be equal. So
+ * e^(Viterbi's value - this one), the best path's share of the likelihood, is at most 1, but for the last rounding of your exp. Where both
+ * are minus infinity there is no share: their difference is NaN. */
 wasnugram_answer wasnugram_forward(
     wasnugram_shape shape,
     const double *transition, size_t transition_length,
@@ -423,7 +428,8 @@ wasnugram_answer wasnugram_forward(
  *
  *   output 5  values  T*S    entry i*S + j: beta of state j at sample T-1-i, so that the last sample comes first
  *
- * No samples: done, nothing written, minus infinity. */
+ * No samples: done, nothing written, minus infinity. What wasnugram_forward promises beside wasnugram_viterbi is not promised here: this
+ * call adds from the other end, and its rounded value may be under Viterbi's. */
 wasnugram_answer wasnugram_backward(
     wasnugram_shape shape,
     const double *transition, size_t transition_length,
