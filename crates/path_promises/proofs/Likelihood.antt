@@ -3,7 +3,7 @@
 use Prim.Native.Nat.{ℕ, zero, suc, _+_, _*_, _-_, _<_}
 use mathlib.Core.Path.{_≡_, ap, _∙_}
 use mathlib.Core.Bool.{Bool, true, false}
-use mathlib.Core.List.{List}
+use mathlib.Core.List.{List, [], _∷_}
 use native.Mathlib.Nat.{lt-suc-self}
 use native.Mathlib.Omega.{arith}
 use lib.Dec.{T}
@@ -24,7 +24,8 @@ use Rattle.model.specs.Good.{goodEnd}
 use Rattle.model.specs.Accepted.{Accepted}
 use Rattle.model.specs.Model.{Model, modelOf}
 use Rattle.model.proofs.Low.{Low, accepted-low}
-use Rattle.checks.proofs.Done.{let-through}
+use Rattle.checks.specs.Rooms.{room}
+use Rattle.checks.proofs.Done.{let-through, is-let-through}
 use Rattle.checks.proofs.Left.{checks-done}
 use Rattle.best_path.specs.Walk.{cell, ended, closed, value, from, lastState, bestValue}
 use Rattle.best_path.proofs.States.{from-below, last-below}
@@ -36,7 +37,7 @@ use Rattle.likelihood.proofs.Bounds.{alpha-lid, alpha-above, alpha-fits, forwar
 use Rattle.path_promises.specs.BestPath.{Decoder}
 use Rattle.path_promises.specs.Calls.{Viterbi, Defined}
 use Rattle.path_promises.specs.Rival.{Beside}
-use Rattle.path_promises.specs.Likelihood.{ForwardIsAbove, LikelihoodIsAbove, Likely, NeverUnder, CellsNeverUnder}
+use Rattle.path_promises.specs.Likelihood.{ForwardIsAbove, LikelihoodIsAbove, Likely, ForwardIsDone, NeverUnder, CellsNeverUnder}
 use Rattle.path_promises.proofs.Calls.{passed, defined}
 use Rattle.path_promises.proofs.Rival.{beside}
 
@@ -99,6 +100,12 @@ module _ (l : Lent) (x : Float) (values : List Float) (c : Likely l x values) wh
 
   likelihood-is : x ≡ forwardValue (modelOf l) (Lent.T l)
   likelihood-is = c .likelihoodIs ∙ ap (λ r. r .value) (is-checked .1)
+
+pub forward-is-done : ForwardIsDone
+forward-is-done l lent left answer a some enough p =
+    let h = is-let-through true (room (Lent.T l * S l) (length lent) ∷ []) l in
+    let d : isDone (checked true l (length lent)) ≡ true = h (record { accepted = a; roomy = (enough, tt); sampled = λ n. some }) in
+    ap isDone (p .answer) ∙ rw d
 
 -- a way to decode that gives what is defined
 never-under : (gives : Decoder) → ((l : Lent) (value : Float) (path : List ℕ) → gives l value path → Defined l value path) → NeverUnder gives

@@ -1,10 +1,11 @@
 -- How likely the samples are beside their best path (RULES 8.6): the likelihood counts every path, and the best one is among them. It is
 -- said of the definitions first, and then of the calls.
-use Prim.Native.Nat.{ℕ, _+_, _*_, _<_}
+use Prim.Native.Nat.{ℕ, _+_, _*_, _≤_, _<_}
 use mathlib.Core.Path.{_≡_}
 use mathlib.Core.Bool.{true}
 use mathlib.Core.List.{List}
 use lib.Dec.{T}
+use lib.ListN.{length}
 use lib.Ieee.{Float, le}
 use Rattle.floats.specs.Float.{at}
 use Rattle.answer.specs.Answer.{isDone}
@@ -35,6 +36,12 @@ pub record Likely (l : Lent) (likelihood : Float) (values : List Float) : Type 0
   pub promised : Forward l lent answer values
   pub done : isDone answer ≡ true
   pub likelihoodIs : likelihood ≡ answer .value
+
+-- it is done for all that is accepted, where there is a sample and its output has room
+abbrev pub ForwardIsDone : Type 0
+ForwardIsDone =
+    (l : Lent) (lent left : List Float) (answer : Answer) → Accepted l → 0 < Lent.T l → Lent.T l * S l ≤ length lent
+    → Forward l lent answer left → isDone answer ≡ true
 
 -- of a way to decode: the likelihood of the same samples is never under the value that it gives
 abbrev pub NeverUnder : Decoder → Type 0
