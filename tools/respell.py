@@ -25,6 +25,9 @@ BY_HAND = {
     "in_sum": "in_sum_lem",
     "one_state": "one_state_lem",
     "getD-tab": "get_or_tab",
+    "add-zero": "add_nought",
+    "in-float": "in_float_lem",
+    "is-nan": "is_nan_lem",
     "ofPHREDProb": "of_phred_prob",
     "of-PHREDProb": "of_phred_prob_lem",
 }
@@ -56,6 +59,19 @@ def write(path, text):
 def is_walk(path):
     """Whether the file is the proof of one function, whose answers are named after the toolchain's goals."""
     return path.endswith("/Proof.antt")
+
+
+USE = re.compile(r"\buse ([^\s;{]+)\.\{([^}]*)\}")
+
+
+def lent(text):
+    """The names that the file brings in from the toolchain: they are its own."""
+    names = set()
+    for m in USE.finditer(text):
+        steps = m[1].split(".")
+        if steps[0] != "Rattle" or not os.path.isdir(os.path.join("crates", steps[1])):
+            names.update(item.split(" as ")[0].strip() for item in m[2].split(","))
+    return names
 
 
 def goals(text):
@@ -130,7 +146,7 @@ def main():
     turned = table()
     for path in files(".antt"):
         text = read(path)
-        kept = goals(text) if is_walk(path) else set()
+        kept = lent(text) | (goals(text) if is_walk(path) else set())
         write(path, turn(text, turned, kept, not is_walk(path)))
     for path in files(".rt"):
         text = read(path)

@@ -3,7 +3,7 @@ use Prim.Native.Nat.{ℕ, zero, suc, ◌+◌, ◌-◌, ◌≤◌, ◌<◌}
 use mathlib.Core.Path.{◌≡◌, refl, sym, ap, ◌∙◌}
 use mathlib.Core.List.{List, [], ◌∷◌, ◌++◌, append_assoc, append-nil}
 use native.Mathlib.Numerals.{sub-one}
-use native.Mathlib.Nat.{add_zero, add-suc, suc-add, not-suc-le-zero}
+use native.Mathlib.Nat.{add-zero, add-suc, suc-add, not-suc-le-zero}
 use native.Mathlib.Omega.{arith}
 use lib.ListN.{length, set}
 use Rattle.lists.specs.Lists.{over}
@@ -22,7 +22,7 @@ pub record Traced (b : ℕ) (from : ℕ → ℕ → ℕ) (S n last : ℕ) (l cur
 module _ (b : ℕ) (from : ℕ → ℕ → ℕ) (S n last : ℕ) (l : List ℕ) (room : b + n < length l) where
   pub traced_none : last < S → Traced b from S n last l l n last
   traced_none h =
-      record { within = omega arith; below = h; suffix = []; long = add_zero n; joins = append-nil _; holds = sym (over_none _ l) }
+      record { within = omega arith; below = h; suffix = []; long = add-zero n; joins = append-nil _; holds = sym (over_none _ l) }
 
   step : (t : ℕ) (cur : List ℕ) (k : ℕ) → Traced b from S n last l cur (suc t) k → from (suc t) k < S
       → Traced b from S n last l (set cur (b + suc t) k) t (from (suc t) k)
@@ -46,7 +46,7 @@ module _ (b : ℕ) (from : ℕ → ℕ → ℕ) (S n last : ℕ) (l : List ℕ) 
   pub traced_all : (t : ℕ) (cur : List ℕ) (k : ℕ) → Traced b from S n last l cur t k → t ≤ 0 → set cur b k ≡ over b (path_to from n last) l
   unfolding path_to
   traced_all zero cur k inv h =
-      let here : cur ≡ over (b + 1) inv.suffix l = rw (add_zero b) at inv.holds in
+      let here : cur ≡ over (b + 1) inv.suffix l = rw (add-zero b) at inv.holds in
       rw (here, over_before b inv.suffix l k (omega arith), ← inv.joins)
   traced_all (suc t) cur k inv h = absurd (not-suc-le-zero h)
 

@@ -236,22 +236,22 @@ add_zero_finite f x t g h c =
     ∙ ap (λ (z : ℕ). settle f (low f) (mid f) (rank f x + z)) (zero_key (low f) (mid f) t)
     ∙ settle_fit f x g h)
 
-pub add_zero : (f : Format) (x : Float) (t : Bool) → T (fits f x) → T (not (is_nan x)) → T (eq (add f x (fin t 0 (pos 0))) x)
+pub add_nought : (f : Format) (x : Float) (t : Bool) → T (fits f x) → T (not (is_nan x)) → T (eq (add f x (fin t 0 (pos 0))) x)
 unfolding add eq is_nan
-add_zero f nan t h n = n
-add_zero f (inf true) t h n = tt
-add_zero f (inf false) t h n = tt
-add_zero f (fin s m e) t h n = add_zero_finite f (fin s m e) t tt h tt
+add_nought f nan t h n = n
+add_nought f (inf true) t h n = tt
+add_nought f (inf false) t h n = tt
+add_nought f (fin s m e) t h n = add_zero_finite f (fin s m e) t tt h tt
 
 -- x + y ≥ x for y ≥ 0, and x + y ≤ x for y ≤ 0
 pub add_ge : (f : Format) (x y : Float) → T (fits f x) → T (capped x) → T (le nought y) → T (capped y) → T (le x (add f x y))
 add_ge f x y h c k d =
     le_le x (add f x nought) (add f x y)
-    (eq_le x (add f x nought) (eq_sym (add f x nought) x (add_zero f x false h (capped_num x c))))
+    (eq_le x (add f x nought) (eq_sym (add f x nought) x (add_nought f x false h (capped_num x c))))
     (add_mono f x x nought y c d (le_self x (capped_num x c)) k)
 
 pub add_le : (f : Format) (x y : Float) → T (fits f x) → T (capped x) → T (le y nought) → T (le (add f x y) x)
 add_le f x y h c k =
     le_le (add f x y) (add f x nought) x
     (add_mono f x x y nought c tt (le_self x (capped_num x c)) k)
-    (eq_le (add f x nought) x (add_zero f x false h (capped_num x c)))
+    (eq_le (add f x nought) x (add_nought f x false h (capped_num x c)))

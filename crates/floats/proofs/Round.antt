@@ -1,7 +1,7 @@
 -- What `round` makes, by its key: it grows with the fraction, through zero too, and it keeps a value that fits.
 use mathlib.Core.Path.{◌≡◌, refl, sym, ap, ap₂, ◌∙◌, subst}
 use Prim.Native.Nat.{ℕ, zero, suc, ◌+◌, ◌-◌, ◌*◌, ◌/◌, ◌%◌, ◌^◌, ◌≤◌, ◌<◌, zero-le, compare}
-use native.Mathlib.Nat.{le_refl, le_trans, le_of_eq, le_of_lt, lt_of_le_of_lt, lt_of_lt_of_le, mul-one, zero-mul, zero-div, add_zero}
+use native.Mathlib.Nat.{le_refl, le_trans, le_of_eq, le_of_lt, lt_of_le_of_lt, lt_of_lt_of_le, mul-one, zero-mul, zero-div, add-zero}
 use native.Mathlib.Nat.{mul_comm, mul_assoc, mul_right_comm, mul-le-mul_right, mul-lt-mul_of_pos_right, lt_of_mul-lt-mul_right}
 use native.Mathlib.Nat.{eq_of_mul-eq-mul_right, sub-add_cancel, sub_self, mul-pos, not-le_of_lt, le_of_suc-le-suc, lt_of_not-le}
 use native.Mathlib.Omega.{arith}
@@ -130,7 +130,7 @@ neg_in l b (fin s m e) p = p
 pub neg_key : (l b : ℕ) (x : Float) → Within l b x → key l b (neg x) + key l b x ≡ b + b
 unfolding neg key
 neg_key l b nan p = absurd p
-neg_key l b (inf true) p = add_zero (b + b)
+neg_key l b (inf true) p = add-zero (b + b)
 neg_key l b (inf false) p = omega arith
 neg_key l b (fin true m e) p = omega arith
 neg_key l b (fin false m e) p = omega arith

@@ -13,10 +13,10 @@ use mir.Val.{SFits, to_z, of_z}
 use mir.ValLaws.{to_z_pos, to_z-of_z}
 use Rattle.kernels.specs.Ln.{joined}
 
-in_float : (z : ℤ) → mag z < 2 ^ 53 → T (in_float binary64 z)
+in_float_lem : (z : ℤ) → mag z < 2 ^ 53 → T (in_float binary64 z)
 unfolding in_float
-in_float (pos n) h = le→leb n (2 ^ 53) (le_of_lt h)
-in_float (negsuc n) h = lt→ltb n (2 ^ 53) h
+in_float_lem (pos n) h = le→leb n (2 ^ 53) (le_of_lt h)
+in_float_lem (negsuc n) h = lt→ltb n (2 ^ 53) h
 
 -- ---- magnitudes
 mag_sub : (a b k : ℕ) → a ≤ k → b ≤ k → mag (sub_ℕ a b) ≤ k
@@ -58,7 +58,7 @@ module _ (size f : ℕ) (hs : size ≤ 2098) (hf : f < 2 ^ 30) where
       go m n h k = omega arith
 
   pub joined_in : T (in_float binary64 (joined e f))
-  joined_in = in_float (joined e f) (lt_of_lt_of_le joined_small (omega arith))
+  joined_in = in_float_lem (joined e f) (lt_of_lt_of_le joined_small (omega arith))
 
   -- ---- as the machine works them out
   abbrev e' : ℤ

@@ -6,7 +6,7 @@ use mathlib.Core.Logic.{◌⊎◌, inl, inr}
 use Prim.Native.Nat.{ℕ, zero, suc, ◌+◌, ◌-◌, ◌*◌, ◌/◌, ◌^◌, ◌≤◌, ◌<◌}
 use native.Mathlib.Nat.{le_trans, le_of_eq, lt_of_lt_of_le, lt_of_le_of_lt, lt_of_not-le, lt_irrefl, mul-one, one-mul, mul_comm}
 use native.Mathlib.Nat.{mul_assoc, mul_right_comm, mul-pos, mul-le-mul_right, mul-lt-mul_of_pos_right, div-le_of_le-mul}
-use native.Mathlib.Nat.{le-div_iff_mul-le, div-lt_iff_lt-mul, eq-or-lt_of_le, zero-mul, pow-suc, add_zero}
+use native.Mathlib.Nat.{le-div_iff_mul-le, div-lt_iff_lt-mul, eq-or-lt_of_le, zero-mul, pow-suc, add-zero}
 use native.Mathlib.Omega.{arith}
 use borrow.Author.Tests.{le-ltb, lt-ltb}
 use lib.Dec.{T, eqb, leb, eqb→eq, leb→le, nleb→lt, lit<, lit≤}
@@ -43,7 +43,7 @@ bit_lt b = go (leb (2 ^ 32) b)
 
 bits_lt : (k j a f : ℕ) → f < 2 ^ j → log_bits k a f < 2 ^ (j + k)
 unfolding log_bits
-bits_lt zero j a f h = subst (λ (n : ℕ). f < 2 ^ n) (sym (add_zero j)) h
+bits_lt zero j a f h = subst (λ (n : ℕ). f < 2 ^ n) (sym (add-zero j)) h
 bits_lt (suc k) j a f h =
     let n : suc j + k ≡ j + suc k = omega arith in
     subst (λ (n : ℕ). log_bits k (halved (squared a)) (f * 2 + bit_of (squared a)) < 2 ^ n) n

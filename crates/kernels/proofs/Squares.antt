@@ -2,7 +2,7 @@
 use mathlib.Core.Path.{◌≡◌, refl, sym, ap, ◌∙◌}
 use mathlib.Core.Bool.{Bool, cond}
 use Prim.Native.Nat.{ℕ, suc, ◌+◌, ◌-◌, ◌*◌, ◌/◌, ◌^◌, ◌≤◌, ◌<◌}
-use native.Mathlib.Nat.{le_of_lt, lt_of_lt_of_le, mul-le-mul_left, pow-suc, add_zero}
+use native.Mathlib.Nat.{le_of_lt, lt_of_lt_of_le, mul-le-mul_left, pow-suc, add-zero}
 use native.Mathlib.Omega.{arith}
 use native.Mathlib.Numerals.{add-one}
 use lib.Pow.{pow_mono}
@@ -37,7 +37,7 @@ pub turn_zero : (i a f : ℕ) → i < 30 → a * a / 2 ^ 31 < 2 ^ 32 → log_bit
 turn_zero i a f h k =
     again i a f h
     ∙ ap (λ (t : Bool). log_bits (30 - (i + 1)) (cond t (a * a / 2 ^ 31 / 2) (a * a / 2 ^ 31)) (f * 2 + cond t 1 0)) (lt-leb (2 ^ 32) (a * a / 2 ^ 31) k)
-    ∙ ap (λ (n : ℕ). log_bits (30 - (i + 1)) (a * a / 2 ^ 31) n) (add_zero (f * 2))
+    ∙ ap (λ (n : ℕ). log_bits (30 - (i + 1)) (a * a / 2 ^ 31) n) (add-zero (f * 2))
 
 pub log_done : (a f : ℕ) → log_bits 0 a f ≡ f
 unfolding log_bits

@@ -4,7 +4,7 @@ use mathlib.Core.Bool.{Bool, true, false, cond, ◌&&◌}
 use mathlib.Core.List.{List, [], ◌∷◌, ◌++◌}
 use Prim.Native.Nat.{ℕ, zero, suc, ◌+◌, ◌-◌, ◌*◌, ◌/◌, ◌%◌, ◌^◌, ◌≤◌, ◌<◌}
 use native.Mathlib.Nat.{le_refl, sub_self, le_of_lt, lt_of_le_of_lt, mul-le-mul, mul-one, mul-zero, mul-div_cancel, div-le_of_le-mul}
-use native.Mathlib.Nat.{add_comm, add_zero, not-suc-le-zero, le_of_suc-le-suc}
+use native.Mathlib.Nat.{add_comm, add-zero, not-suc-le-zero, le_of_suc-le-suc}
 use native.Mathlib.Omega.{arith}
 use lib.Dec.{T, eqb, ltb, ltb→lt}
 use lib.Ieee.Fits.{and_l, and_r}
@@ -20,7 +20,7 @@ factor c b = c * b + 2147483648 * (1 - b)
 module _ (a c : ℕ) where
   pub step_is : (b : ℕ) → b < 2 → a * factor c b / 2 ^ 31 ≡ step c b a
   step_is zero h = ap (λ (n : ℕ). a * (n + 2147483648) / 2 ^ 31) (mul-zero c) ∙ mul-div_cancel a (pow_pos 31)
-  step_is (suc zero) h = ap (λ (n : ℕ). a * (n + 0) / 2 ^ 31) (mul-one c) ∙ ap (λ (n : ℕ). a * n / 2 ^ 31) (add_zero c)
+  step_is (suc zero) h = ap (λ (n : ℕ). a * (n + 0) / 2 ^ 31) (mul-one c) ∙ ap (λ (n : ℕ). a * n / 2 ^ 31) (add-zero c)
   step_is (suc (suc b)) h = absurd (not-suc-le-zero (le_of_suc-le-suc (le_of_suc-le-suc h)))
 
   module _ (below : a ≤ 2 ^ 31) (small : c < 2 ^ 31) where

@@ -1,6 +1,6 @@
 -- What a cell's strides read: forward, the arcs into state j and its emission; backward, the arcs out of it and every emission.
 use Prim.Native.Nat.{ℕ, ◌+◌, ◌*◌, ◌<◌, ◌≤◌}
-use native.Mathlib.Nat.{mul-zero, mul-one, zero-add, add_zero, add_comm, le_of_eq}
+use native.Mathlib.Nat.{mul-zero, mul-one, zero-add, add-zero, add_comm, le_of_eq}
 use native.Mathlib.Omega.{arith}
 use mathlib.Core.Path.{◌≡◌, sym, ap, ap₂, ◌∙◌}
 use mathlib.Core.Bool.{true, false}
@@ -29,10 +29,10 @@ still_within n table j h k l = rw (mul-zero k, zero-add j) h
 
 -- entries in order
 in_order : (table : List Float) (k : ℕ) → strided table (from 0 1) k ≡ at table k
-in_order table k = ap (at table) (add_zero (k * 1) ∙ mul-one k)
+in_order table k = ap (at table) (add-zero (k * 1) ∙ mul-one k)
 
 in_order_within : (n : ℕ) (table : List Float) → n ≤ length table → Within n table (from 0 1)
-in_order_within n table h k l = rw (add_zero (k * 1), mul-one k) (omega arith)
+in_order_within n table h k l = rw (add-zero (k * 1), mul-one k) (omega arith)
 
 -- a row of a table, in order
 along : (table : List Float) (i k : ℕ) → strided table (from i 1) k ≡ at table (i + k)

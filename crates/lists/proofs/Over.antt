@@ -4,7 +4,7 @@ use mathlib.Core.Path.{◌≡◌, refl, sym, ap, ap₂, ◌∙◌, subst}
 use mathlib.Core.List.{List, [], ◌∷◌, ◌++◌, append_assoc}
 use mathlib.Core.Logic.{⊎_elim}
 use native.Mathlib.Numerals.{add-one}
-use native.Mathlib.Nat.{zero-add, add_zero, add-suc, suc-add, not-suc-le-zero, eq-or-lt_of_le, le_of_suc-le-suc, lt-suc_self}
+use native.Mathlib.Nat.{zero-add, add-zero, add-suc, suc-add, not-suc-le-zero, eq-or-lt_of_le, le_of_suc-le-suc, lt-suc_self}
 use native.Mathlib.Omega.{arith}
 use lib.ListN.{length, get_or, take, drop, set, length-append, length-drop, take-append-drop, get_or-append}
 use lib.Seq.{drop-cons, set_at, drop-drop, take_at, take-append-le, get_or_at, length-take-le, take-take, get_or-take, get_or-drop}
@@ -53,7 +53,7 @@ module _ {A : Type 0} where
 
   pub over_none : (i : ℕ) (l : List A) → over i [] l ≡ l
   unfolding over
-  over_none i l = rw (add_zero, take-append-drop)
+  over_none i l = rw (add-zero, take-append-drop)
 
   pub length_over : (i : ℕ) (p l : List A) → i + length p ≤ length l → length (over i p l) ≡ length l
   unfolding over
@@ -77,7 +77,7 @@ module _ {A : Type 0} where
   pub past_front : (p l : List A) (n : ℕ) (d : A) → length p ≡ n → get_or (over 0 p l) n d ≡ get_or l n d
   unfolding over
   past_front p l n d e =
-      subst (λ (m : ℕ). get_or (p ++ drop (0 + length p) l) m d ≡ get_or l m d) (add_zero (length p) ∙ e)
+      subst (λ (m : ℕ). get_or (p ++ drop (0 + length p) l) m d ≡ get_or l m d) (add-zero (length p) ∙ e)
       (rw zero-add (get_or-append-add p (drop (length p) l) 0 d ∙ get_or-drop (length p) l 0 d))
 
   -- what lies below i is as it was

@@ -1,5 +1,5 @@
 -- `frozen_list::tally::kind` meets its contract: at each return the tests say which case of `kind_of` holds.
-use Rattle.std.proofs.Common.{add_zero, rules, le-ltb, lt-ltb}
+use Rattle.std.proofs.Common.{add-zero, rules, le-ltb, lt-ltb}
 use Rattle.frozen_list.proofs.tally.kind.Statement.{statement}
 use Rattle.frozen_list.proofs.tally.kind.Tie as tie
 
@@ -29,7 +29,7 @@ mul-result-2 c = search rules
 returns-4 : tie.Need-returns-4
 returns-4 c =
     let tests = c.before in
-    rw (← tests.before.before.word_at.ensures, lt-ltb _ _ tests.before.if1.false, lt-ltb _ _ tests.if2.false, c.if3.false, add_zero)
+    rw (← tests.before.before.word_at.ensures, lt-ltb _ _ tests.before.if1.false, lt-ltb _ _ tests.if2.false, c.if3.false, add-zero)
 
 pub kind-spec : {M : Type 1} → statement M
 kind-spec =

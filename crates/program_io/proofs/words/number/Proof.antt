@@ -8,18 +8,18 @@ use borrow.Author.Tests.{lt-ltb, le-ltb}
 use Rattle.program_io.proofs.words.number.Statement.{statement}
 use Rattle.program_io.proofs.words.number.Tie as tie
 
-is_nan : (x : Float) → is_nan x ≡ true → nan ≡ x
+is_nan_lem : (x : Float) → is_nan x ≡ true → nan ≡ x
 unfolding is_nan
-is_nan nan e = refl
-is_nan (inf s) e = cc
-is_nan (fin s m k) e = cc
+is_nan_lem nan e = refl
+is_nan_lem (inf s) e = cc
+is_nan_lem (fin s m k) e = cc
 
 zero_by_zero : div binary64 (of_bits binary64 0) (of_bits binary64 0) ≡ nan
 unfolding div of_bits
 zero_by_zero = refl
 
 returns : tie.Need-returns
-returns c = zero_by_zero ∙ is_nan _ (sym (nan_bits_is binary64 _) ∙ nan_bits_above binary64 _ ∙ lt-ltb _ _ c.if1.true)
+returns c = zero_by_zero ∙ is_nan_lem _ (sym (nan_bits_is binary64 _) ∙ nan_bits_above binary64 _ ∙ lt-ltb _ _ c.if1.true)
 
 float-from-bits-result : tie.Need-float-from-bits-result
 float-from-bits-result c = rw (nan_bits_above, le-ltb _ _ c.if1.false) tt
