@@ -1,5 +1,8 @@
 // The answer of every public call: which refusal, which table, the place in it, and a value. What goes in is the case; what comes
 // out is made in one place, so that a field added to the answer is one edit.
+
+#![tactic(auto)]
+
 ghost use Rattle.std.specs.Prelude.{◌≡◌};
 ghost use Rattle.answer.specs.Answer as Spec;
 ghost use Rattle.answer.specs.Answer.{number_of, refuse};
@@ -7,7 +10,7 @@ ghost use Rattle.answer.specs.Answer.{number_of, refuse};
 use floats::minus_infinity;
 
 // Why a call was refused, in the order of the numbers (RULES 3.2).
-#[derive(Drop)]
+#[derive(Clone, Copy)]
 pub enum Refusal {
     // 0: not refused.
     Done,
@@ -44,7 +47,7 @@ pub enum Refusal {
 }
 
 // What every public call gives back, by value.
-#[derive(Drop)]
+#[derive(Clone, Copy)]
 pub struct Answer {
     pub refusal: Refusal,
     pub table: u8,

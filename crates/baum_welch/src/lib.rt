@@ -1,4 +1,7 @@
 // One pass of re-estimation, `baum_welch`: from a model and its samples to the tables of the model that fits them better.
+
+#![tactic(auto)]
+
 mod mass;
 mod tables;
 

@@ -8,7 +8,7 @@ use occupancy::Pass;
 use occupancy::state::{denominator, gamma, is_massless};
 
 // Whether there is mass, as an answer, and what the states are measured by.
-#[derive(Drop)]
+#[derive(Clone, Copy)]
 pub struct Mass {
     pub answer: Answer,
     pub gammas: [f64; 64],

@@ -1,5 +1,8 @@
 // The checks that a call on a model makes before it reads a sample, a function for each slot of them. What goes in is the shape, lengths
 // and contents; what comes out is the first fault, or done; nothing is written.
+
+#![tactic(auto)]
+
 ghost use Rattle.std.specs.Prelude.{◌≡◌, true, false, not, ◌&&◌, ◌||◌, [], ◌∷◌, eqb, ltb};
 ghost use Rattle.lists.specs.Lists.{first_bad, some_bad};
 ghost use Rattle.answer.specs.Checks.{first_of};

@@ -1,4 +1,7 @@
 // Outputs as they are lent, and whether an answer or an output is another than a frozen case says, to the last bit.
+
+#![tactic(auto)]
+
 ghost use Rattle.std.specs.Prelude.{◌≡◌, cond, length, take, replicate};
 ghost use Rattle.std.specs.Float.Ieee.{of_bits};
 ghost use Rattle.std.specs.Float.{binary64};

@@ -1,5 +1,8 @@
 // What the walks have in common of a row, whatever they make of it: the emissions of its sample, laid out by state, with a state barred or
 // without, and the first row.
+
+#![tactic(auto)]
+
 ghost use Rattle.std.specs.Prelude.{◌≡◌, cond, ◌&&◌, ◌+◌, ◌*◌, ◌≤◌, ◌<◌, eqb, ltb, length, set};
 ghost use Rattle.floats.specs.Float.{at, minus_infinity};
 ghost use Rattle.lists.specs.Lists.{tab, over};

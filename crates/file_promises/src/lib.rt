@@ -1,1 +1,3 @@
 // What is promised of model files. There is no code.
+
+#![tactic(auto)]

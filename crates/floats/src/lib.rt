@@ -1,4 +1,7 @@
 // What the crates above ask of a single f64. The laws of f64 are in proofs/.
+
+#![tactic(auto)]
+
 ghost use Rattle.std.specs.Prelude.{◌≡◌};
 ghost use Rattle.floats.specs.Float as Float;
 ghost use Rattle.floats.specs.Float.{minus_infinity, is_number, is_minus_infinity, is_plus_infinity, is_infinite, is_plus_zero};

@@ -17,7 +17,7 @@ pub fn call_of(case: &[u64]) -> u64
 }
 
 // Where a list begins and ends, and whether the case has all of it.
-#[derive(Drop)]
+#[derive(Clone, Copy)]
 pub struct Span {
     start: usize,
     end: usize,

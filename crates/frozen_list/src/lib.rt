@@ -1,3 +1,6 @@
 // The frozen list of rust/FROZEN.md: where the parts of a case lie, and how many cases differ.
+
+#![tactic(auto)]
+
 pub mod cases;
 pub mod tally;

@@ -1,5 +1,8 @@
 // The kernels exp, ln and ln(1 - exp(p)): each is an exact definition of specs/, bit for bit. The calls `exp`, `ln` and `ln_1m_exp` refuse
 // what is outside their domain; `exp_of`, `ln_of` and `ln_1m_of`, for the crates above, give the bare value, defined for every argument.
+
+#![tactic(auto)]
+
 mod heads;
 
 ghost use Rattle.std.specs.Prelude.{◌≡◌, ◌-◌, ◌^◌, ◌%◌, ◌≤◌, ◌<◌, take, drop, pos, ◌-ℤ◌, T};

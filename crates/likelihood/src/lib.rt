@@ -3,6 +3,9 @@
 // and only the first row, a cell, the time of a row's sample, the last sum and the checks look at it. A sum has a term for each state, 64
 // at most, so they are laid out in a local array, as the emissions of a row's sample are: a walk reads them from there, whatever an
 // emission is made of. The logarithms of a row are taken at its end, one right after the other.
+
+#![tactic(auto)]
+
 ghost use Rattle.std.specs.Prelude.{◌≡◌, ◌+◌, ◌*◌, ◌<◌, ◌≤◌, length};
 ghost use Rattle.lists.specs.Lists.{over};
 ghost use Rattle.sums.specs.Sum.{ln_sum};
@@ -24,7 +27,7 @@ use model::{Shape, entry};
 use sums::sum::{Open, close_sum, ln_sum, open_sum};
 
 // Which entries of a table a sum reads: from which place on, and how far apart.
-#[derive(Drop)]
+#[derive(Clone, Copy)]
 struct Stride(usize, usize);
 
 // Entry k of those.
@@ -117,7 +120,7 @@ fn cell(
 }
 
 // The sums of a row before their logarithms are taken, state by state: the greatest term of each, and the sum over the others.
-#[derive(Drop)]
+#[derive(Clone, Copy)]
 struct OpenRow {
     values: [f64; 64],
     sums: [f64; 64],

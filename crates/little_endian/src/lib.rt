@@ -1,4 +1,7 @@
 // Numbers as bytes, the lowest first: read from lent bytes and written to them. The caller shows that the bytes are there.
+
+#![tactic(auto)]
+
 ghost use Rattle.std.specs.Prelude.{◌≡◌, ◌+◌, ◌*◌, ◌/◌, ◌%◌, ◌^◌, ◌<◌, ◌≤◌, length};
 ghost use Rattle.lists.specs.Lists.{part, over};
 ghost use Rattle.little_endian.specs.Bytes.{value, words, sum, little};

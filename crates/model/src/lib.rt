@@ -1,4 +1,7 @@
 // The model's shape, the read of an entry, and which entries are good.
+
+#![tactic(auto)]
+
 ghost use Rattle.std.specs.Prelude.{◌≡◌, ◌<◌, ◌||◌, length, ◌==◌};
 ghost use Rattle.floats.specs.Float.{at};
 ghost use Rattle.model.specs.Good.{good, good_end, good_bits};
@@ -8,7 +11,7 @@ use floats::{is_number, is_plus_zero};
 use std::num::{wrapping_add_u64, wrapping_sub_u64};
 
 // S states, M symbols, and whether the model has an end state.
-#[derive(Drop)]
+#[derive(Clone, Copy)]
 pub struct Shape {
     pub states: usize,
     pub symbols: usize,

@@ -1,5 +1,8 @@
 // The model file, read and written: little-endian, contents first, a sum for each table. What goes in is a file or a model; what comes out
 // is the answer, with the shape beside it from the reader, and the model or the file in lent memory. Refused, nothing is written.
+
+#![tactic(auto)]
+
 mod pack;
 mod unpack;
 
@@ -19,7 +22,7 @@ use file_layout::layout::{count, offset};
 use model::Shape;
 
 // What a reader gives back: its answer, and the shape of the model that it read. Refused, the shape is that of no model.
-#[derive(Drop)]
+#[derive(Clone, Copy)]
 pub struct Reading {
     pub answer: Answer,
     pub shape: Shape,

@@ -2,6 +2,9 @@
 // lent slices and hands back an Answer. Where the Rust panics or gives NaN it refuses; a NaN is 7 at table 0, at its argument's number
 // from 0 or its index in a slice. The sum itself is in sum, and what two numbers make in pair. Left out: operators, integration, cdf,
 // log10 and powf.
+
+#![tactic(auto)]
+
 ghost use Rattle.std.specs.Prelude.{◌≡◌, ◌≤◌, length};
 ghost use Rattle.floats.specs.Float.{minus_infinity, is_number, at};
 ghost use Rattle.lists.specs.Lists.{first_bad, over};
@@ -22,7 +25,7 @@ const LOG_TO_PHRED_FACTOR: f64 = -4.3429448190325175;
 const PHRED_TO_LOG_FACTOR: f64 = -0.23025850929940456;
 
 // A probability.
-#[derive(Drop)]
+#[derive(Clone, Copy)]
 pub struct Prob(pub f64);
 
 impl Prob {
@@ -38,11 +41,11 @@ impl Prob {
 }
 
 // A log-probability.
-#[derive(Drop)]
+#[derive(Clone, Copy)]
 pub struct LogProb(pub f64);
 
 // A probability on the PHRED scale.
-#[derive(Drop)]
+#[derive(Clone, Copy)]
 pub struct PHREDProb(pub f64);
 
 impl LogProb {

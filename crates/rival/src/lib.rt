@@ -1,5 +1,8 @@
 // The strongest rival of the best path at a sample: the best of the paths that have another state there. It is the best path of the model
 // in which the chosen state is barred at that sample.
+
+#![tactic(auto)]
+
 mod preview;
 
 ghost use Rattle.std.specs.Prelude.{◌≡◌};
@@ -17,7 +20,7 @@ use walk::decode;
 
 // What the call gives back: its answer, whose value is the rival's score, the state that the best path has at the sample, and the best
 // path's value. Refused, the state is 0 and the value minus infinity.
-#[derive(Drop)]
+#[derive(Clone, Copy)]
 pub struct Rivalry {
     pub answer: Answer,
     pub chosen: usize,

@@ -14,7 +14,7 @@ use model::Shape;
 use walk::lay_sample;
 
 // The best path's value, and the state that it has at the sample that was asked for.
-#[derive(Drop)]
+#[derive(Clone, Copy)]
 pub struct Outlook {
     pub value: f64,
     pub state: usize,

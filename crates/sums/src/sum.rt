@@ -14,7 +14,7 @@ use floats::{is_infinite, is_minus_infinity, minus_infinity};
 use kernels::{exp_of, ln_of};
 
 // The first greatest of the terms so far, and its place among them.
-#[derive(Drop)]
+#[derive(Clone, Copy)]
 pub struct Peak {
     pub value: f64,
     pub place: usize,
@@ -22,7 +22,7 @@ pub struct Peak {
 
 // A sum before its logarithm is taken: the greatest of its terms, and the sum of exp(x - p) over the others. The steps of a logarithm
 // wait for one another, so a caller with many sums takes their logarithms at the end, one right after the other, where they overlap.
-#[derive(Drop)]
+#[derive(Clone, Copy)]
 pub struct Open {
     pub value: f64,
     pub sum: f64,

@@ -2,6 +2,9 @@
 // and the place that it names, the bits of the value, and the path where one is written. A line of R1 to R6 has after the value the rival,
 // written or not; then the chosen state, the bits of the best value and the best path. A line of F1 to F5 has after the value the bytes of
 // the file that is written, or the shape and the tables that are read. The file stdout beside src/ has what the rules say of each.
+
+#![tactic(auto)]
+
 mod files;
 mod leaves;
 mod models;

@@ -1,6 +1,9 @@
 // The leaves on every edge value, on every pair of them and on every run of them, so that each rule of RULES 5 meets its border. The
 // first lines give the values, each as its number and its bits. A line after them is a call, the numbers of its arguments, the number of
 // its refusal, the table and place that it names, and the bits of its value. The file stdout beside src/ has what the rules make of each.
+
+#![tactic(auto)]
+
 use answer::Answer;
 use floats::minus_infinity;
 use probs::{LogProb, PHREDProb, Prob};

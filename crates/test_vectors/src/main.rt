@@ -2,6 +2,9 @@
 // as they are afterwards. Each call is made through the public functions; answer and outputs are compared word by word, surplus included.
 // A line for each call says how many cases are the same and how many differ, and then the same of the cases that the list marks as
 // altered, each of which has one word that is wrong and must differ.
+
+#![tactic(auto)]
+
 mod files;
 mod leaves;
 mod report;

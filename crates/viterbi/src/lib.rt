@@ -1,4 +1,7 @@
 // The best path through a model: Viterbi's walk, with every value and predecessor on the way left in lent memory.
+
+#![tactic(auto)]
+
 ghost use Rattle.std.specs.Prelude.{◌≡◌};
 ghost use Rattle.model.specs.Lent.{lent};
 ghost use Rattle.viterbi.specs.Call.{Decoded, outputs};

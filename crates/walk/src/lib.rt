@@ -1,5 +1,8 @@
 // The whole walk on lent memory: every row of values and predecessors, then the best path. One state may be barred at one sample: with an
 // index past the last sample none is. A caller lends all memory and shows that it fits; nothing is checked here.
+
+#![tactic(auto)]
+
 ghost use Rattle.std.specs.Prelude.{length};
 ghost use Rattle.model.specs.Lent.{lent};
 ghost use Rattle.model.specs.Model.{emission_of, model_of};

@@ -1,4 +1,7 @@
 // The C face: thin exports over the proved calls, which flatten an answer. include/wasnugram.h is the manual.
+
+#![tactic(auto)]
+
 ghost use Rattle.std.specs.Prelude.{◌≡◌};
 ghost use Rattle.answer.specs.declared.Answer.{Answer};
 ghost use Rattle.kernels.specs.Calls.{exp_answer, ln_answer, ln1m_answer};
@@ -19,7 +22,7 @@ use probs::LogProb;
 
 // S states, M symbols, and whether the model has an end state: 0 for no, anything else for yes.
 #[repr(C)]
-#[derive(Drop)]
+#[derive(Clone, Copy)]
 pub struct WasnugramShape {
     pub states: usize,
     pub symbols: usize,
@@ -28,7 +31,7 @@ pub struct WasnugramShape {
 
 // The refusal's number (0: done), its table, the place in it, and the value.
 #[repr(C)]
-#[derive(Drop)]
+#[derive(Clone, Copy)]
 pub struct WasnugramAnswer {
     pub refusal: u8,
     pub table: u8,
@@ -38,7 +41,7 @@ pub struct WasnugramAnswer {
 
 // What a reader gives back: its answer, and the shape of the model that it read.
 #[repr(C)]
-#[derive(Drop)]
+#[derive(Clone, Copy)]
 pub struct WasnugramReading {
     pub answer: WasnugramAnswer,
     pub shape: WasnugramShape,
@@ -46,7 +49,7 @@ pub struct WasnugramReading {
 
 // What `wasnugram_rival` gives back: its answer, the state that the best path has at the sample, and the best path's value.
 #[repr(C)]
-#[derive(Drop)]
+#[derive(Clone, Copy)]
 pub struct WasnugramRivalry {
     pub answer: WasnugramAnswer,
     pub chosen: usize,

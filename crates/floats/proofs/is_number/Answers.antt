@@ -4,8 +4,7 @@ use mathlib.Core.Bool.{not, true, false}
 use lib.Ieee.{Float, nan, inf, fin, eq, is_nan, up, down}
 use Prim.Native.Nat.{◌*◌}
 use borrow.Author.Tests.{eq-eqb}
-use Rattle.floats.proofs.is_number.Statement.{statement}
-use Rattle.floats.proofs.is_number.Tie as tie
+use Rattle.floats.proofs.is_number.Goals as goal
 
 equal : (x : Float) → eq x x ≡ not (is_nan x)
 unfolding eq is_nan
@@ -15,8 +14,5 @@ equal (inf false) = refl
 equal (fin true m e) = rw (eq-eqb (m * up e * down e) _ refl)
 equal (fin false m e) = rw (eq-eqb (m * up e * down e) _ refl)
 
-returns : tie.Need-returns
+pub returns : goal.returns
 returns c = equal c.args.x
-
-pub is-number-spec : {M : Type 1} → statement M
-is-number-spec = tie.close (tie.spec returns)
