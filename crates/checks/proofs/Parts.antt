@@ -29,8 +29,8 @@ module _ (needs_sample : Bool) (l : Lent) where
       refuse_both (shape_tests shape) (count_tests needs_sample (T l) ++ tables) (shape_refuses shape)
       (refuse_both (count_tests needs_sample (T l)) tables (count_refuses needs_sample (T l)) (rooms_refuse true 0 (table_rooms l.tables)))
 
-  pub sizes_passed : (b : Bool) (a : Answer) → b ≡ is_done a → a ≡ first_of (size_tests needs_sample l) → not b ≡ false → Clear (size_tests needs_sample l)
-  sizes_passed b a is from h = passed_by b a (size_tests needs_sample l) is from h sizes_refuse
+  pub sizes_passed : (b : Bool) (a : Answer) → b ≡ is_done a → a ≡ first_of (size_tests needs_sample l) → b ≡ true → Clear (size_tests needs_sample l)
+  sizes_passed b a is from h = passed_by b a (size_tests needs_sample l) is from (ap not h) sizes_refuse
 
   -- the most places that a table of T rows has: their number is within a usize
   pub few_places : Clear (size_tests needs_sample l) → T l * S l ≤ 4096 * 64
@@ -43,8 +43,8 @@ module _ (needs_sample : Bool) (l : Lent) where
     unfolding sizes_of rest_tests tests_of sample_tests
     parts = joined (shape_tests l.tables.shape) (count_tests needs_sample (T l)) (room_tests true 0 (table_rooms l.tables)) (rest_tests outputs l)
 
-    pub sizes_refused : (b : Bool) (a : Answer) → b ≡ is_done a → a ≡ first_of (size_tests needs_sample l) → not b ≡ true → a ≡ check needs_sample outputs l
-    sizes_refused b a is from h = refused_by b a (size_tests needs_sample l) is from h (rest_tests outputs l) ∙ ap first_of parts
+    pub sizes_refused : (b : Bool) (a : Answer) → b ≡ is_done a → a ≡ first_of (size_tests needs_sample l) → b ≡ false → a ≡ check needs_sample outputs l
+    sizes_refused b a is from h = refused_by b a (size_tests needs_sample l) is from (ap not h) (rest_tests outputs l) ∙ ap first_of parts
 
     pub rest_answers : (r : Answer) → Clear (size_tests needs_sample l) → r ≡ first_of (rest_tests outputs l) → r ≡ check needs_sample outputs l
     rest_answers r f e = goes_on (size_tests needs_sample l) (rest_tests outputs l) r e f ∙ ap first_of parts

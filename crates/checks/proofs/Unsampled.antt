@@ -73,26 +73,26 @@ module _ (outputs : List Room) (m : Tables) where
   sized = left_out shape (count_tests false 0) tables no_count
 
   module _ (b : Bool) (a : Answer) (is : b ≡ is_done a) where
-    pub sizes_answer : a ≡ first_of sizes → not b ≡ true → a ≡ check_tables outputs m
+    pub sizes_answer : a ≡ first_of sizes → b ≡ false → a ≡ check_tables outputs m
     sizes_answer from h =
-        refused_by b a (shape ++ tables) is (from ∙ sized) h (rooms ++ entries)
+        refused_by b a (shape ++ tables) is (from ∙ sized) (ap not h) (rooms ++ entries)
         ∙ ap first_of (append_assoc shape tables (rooms ++ entries) ∙ sym all)
 
-    pub sizes_clear : a ≡ first_of sizes → not b ≡ false → Clear (shape ++ tables)
+    pub sizes_clear : a ≡ first_of sizes → b ≡ true → Clear (shape ++ tables)
     sizes_clear from h =
-        passed_by b a (shape ++ tables) is (from ∙ sized) h
+        passed_by b a (shape ++ tables) is (from ∙ sized) (ap not h)
         (refuse_both shape tables (shape_refuses m.shape) (rooms_refuse true 0 (table_rooms m)))
 
     module _ (passed : Clear (shape ++ tables)) (from : a ≡ first_of rooms) where
-      pub outputs_answer : not b ≡ true → a ≡ check_tables outputs m
+      pub outputs_answer : b ≡ false → a ≡ check_tables outputs m
       outputs_answer h =
-          goes_on (shape ++ tables) (rooms ++ entries) a (refused_by b a rooms is from h entries) passed
+          goes_on (shape ++ tables) (rooms ++ entries) a (refused_by b a rooms is from (ap not h) entries) passed
           ∙ ap first_of (append_assoc shape tables (rooms ++ entries) ∙ sym all)
 
-      pub entries_answer : not b ≡ false → (r : Answer) → r ≡ first_of entries → r ≡ check_tables outputs m
+      pub entries_answer : b ≡ true → (r : Answer) → r ≡ first_of entries → r ≡ check_tables outputs m
       entries_answer h r e =
           goes_on (shape ++ tables) (rooms ++ entries) r
-          (goes_on rooms entries r e (passed_by b a rooms is from h (rooms_refuse false 5 outputs))) passed
+          (goes_on rooms entries r e (passed_by b a rooms is from (ap not h) (rooms_refuse false 5 outputs))) passed
           ∙ ap first_of (append_assoc shape tables (rooms ++ entries) ∙ sym all)
 
   pub sizes_in_range : Clear (shape ++ tables) → InRange m.shape
