@@ -17,7 +17,7 @@ fn main() {
         println!("cargo::rustc-link-lib=static=wasnugram");
     } else {
         println!("cargo::error=the proved archive is missing: {}", archive.display());
-        println!("cargo::error=`rt staticlib wasnugram` in the repository makes it; WASNUGRAM_STATICLIB names another folder");
+        println!("cargo::error=`c/archive` in the repository makes it; WASNUGRAM_STATICLIB names another folder");
     }
 }
 
