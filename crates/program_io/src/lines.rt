@@ -1,34 +1,36 @@
 // Lines on standard output: text, counts, bits, answers.
 use answer::{Answer, number};
 use floats::is_number;
+use std::io;
 
 // Bytes as they are.
-pub fn text(s: &[u8]) {
-    io::write_all(1, s);
+pub fn text(rt: &impl Print, s: &[u8]) -> io::Result<()> {
+    rt.write_all(s)
 }
 
 // A number in decimal.
-pub fn count(n: u64) {
-    io::print_decimal(1, n);
+pub fn count(rt: &impl Print, n: u64) -> io::Result<()> {
+    print!(rt; "{n}")
 }
 
 // The bits of x as 16 hexadecimal digits, and a NaN by its name.
-pub fn bits(x: f64) {
+pub fn bits(rt: &impl Print, x: f64) -> io::Result<()> {
     if is_number(x) {
-        io::print_hex(1, f64::to_bits(x), 16);
+        let word = f64::to_bits(x);
+        print!(rt; "{word:016x}")
     } else {
-        text(b"nan");
+        text(rt, b"nan")
     }
 }
 
 // The answer's refusal, table, place and value.
-pub fn answer(a: Answer) {
+pub fn answer(rt: &impl Print, a: Answer) -> io::Result<()> {
     let refusal = a.refusal;
-    count(number(refusal) as u64);
-    text(b" ");
-    count(a.table as u64);
-    text(b" ");
-    count(a.place as u64);
-    text(b" ");
-    bits(a.value);
+    count(rt, number(refusal) as u64)?;
+    text(rt, b" ")?;
+    count(rt, a.table as u64)?;
+    text(rt, b" ")?;
+    count(rt, a.place as u64)?;
+    text(rt, b" ")?;
+    bits(rt, a.value)
 }

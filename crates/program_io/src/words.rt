@@ -1,8 +1,11 @@
 // Words of 8 bytes, little-endian, from standard input, and the f64 that they are the bits of.
-ghost use Rattle.std.specs.Prelude.{◌≡◌, ◌<◌, ◌≤◌, length};
+ghost use Rattle.std.specs.Prelude.{◌≡◌, ◌<◌, ◌≤◌, IfOk, length};
 ghost use Rattle.std.specs.Float.Ieee.{of_bits};
 ghost use Rattle.std.specs.Float.{binary64};
 ghost use Rattle.program_io.specs.Words.{word_of, word_at};
+
+use std::io;
+use std::io::Read;
 
 // A byte as a number.
 pub fn wide(x: u8) -> u64
@@ -21,20 +24,35 @@ fn word(b: &[u8; 8]) -> u64
     (x * 256 + wide(b[1])) * 256 + wide(b[0])
 }
 
+// Reads until the buffer is full or the input ends, and how many bytes are then in its front.
+pub fn read_full(input: &mut impl Read, buf: &mut [u8]) -> io::Result<usize>
+    ensures { IfOk result (λ n. n ≤ length buf.old) }
+{
+    let mut n = 0;
+    while n < buf.len() {
+        let more = input.read(&mut buf[n..])?;
+        if more == 0 {
+            break;
+        }
+        n += more;
+    }
+    Ok(n)
+}
+
 // The next words of the input, into the front of `into`, and how many there were.
-pub fn read_words(into: &mut [u64]) -> usize
-    ensures { result ≤ length into.old }
+pub fn read_words(input: &mut impl Read, into: &mut [u64]) -> io::Result<usize>
+    ensures { IfOk result (λ n. n ≤ length into.old) }
 {
     let mut n = 0;
     while n < into.len() {
         let mut b = [0u8; 8];
-        if io::read_full(0, &mut b[..]) < 8 {
-            return n;
+        if read_full(input, &mut b[..])? < 8 {
+            return Ok(n);
         }
         into[n] = word(&b);
         n += 1;
     }
-    n
+    Ok(n)
 }
 
 // Word i of a list; 0 where there is none.

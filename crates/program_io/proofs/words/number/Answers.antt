@@ -3,10 +3,8 @@ use mathlib.Core.Path.{◌≡◌, refl, sym, ◌∙◌}
 use mathlib.Core.Bool.{true}
 use lib.Ieee.{Float, nan, inf, fin, binary64, is_nan, of_bits, div}
 use lib.Ieee.Bits.{nan_bits_is, nan_bits_above}
-use borrow.Author.Rules.{rules}
 use borrow.Author.Tests.{lt-ltb, le-ltb}
-use Rattle.program_io.proofs.words.number.Statement.{statement}
-use Rattle.program_io.proofs.words.number.Tie as tie
+use Rattle.program_io.proofs.words.number.Goals as goal
 
 is_nan_lem : (x : Float) → is_nan x ≡ true → nan ≡ x
 unfolding is_nan
@@ -18,14 +16,8 @@ zero_by_zero : div binary64 (of_bits binary64 0) (of_bits binary64 0) ≡ nan
 unfolding div of_bits
 zero_by_zero = refl
 
-returns : tie.Need-returns
-returns c = zero_by_zero ∙ is_nan_lem _ (sym (nan_bits_is binary64 _) ∙ nan_bits_above binary64 _ ∙ lt-ltb _ _ c.if1.true)
+pub returns-then-bits-gt9218868437227405312 : goal.returns-then-bits-gt9218868437227405312
+returns-then-bits-gt9218868437227405312 c = zero_by_zero ∙ is_nan_lem _ (sym (nan_bits_is binary64 _) ∙ nan_bits_above binary64 _ ∙ lt-ltb _ _ c.if-bits-gt9218868437227405312.true)
 
-float-from-bits-result : tie.Need-float-from-bits-result
-float-from-bits-result c = rw (nan_bits_above, le-ltb _ _ c.if1.false) tt
-
-returns-2 : tie.Need-returns-2
-returns-2 c = search rules
-
-pub number-spec : {M : Type 1} → statement M
-number-spec = tie.close (tie.spec returns float-from-bits-result returns-2)
+pub float_from_bits-result : goal.float_from_bits-result
+float_from_bits-result c = rw (nan_bits_above, le-ltb _ _ c.if-bits-gt9218868437227405312.false) tt
