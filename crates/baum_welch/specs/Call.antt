@@ -15,7 +15,7 @@ use Rattle.checks.specs.Checks.{check}
 use Rattle.occupancy.specs.Occupancy.{Walks, massless}
 use Rattle.baum_welch.specs.Pass.{walks, new_transition, new_emission, new_initial, new_end}
 
--- outputs 5 to 10: the new model's tables, then two scratch tables of T-as-S
+-- outputs 5 to 10: the new model's tables, then two scratch tables of T·S
 pub record Outputs : Type 0 where
   pub transition : List Float
   pub emission : List Float

@@ -9,7 +9,7 @@ use Rattle.checks.specs.Rooms.{room}
 use Rattle.checks.specs.Checks.{check}
 use Rattle.likelihood.specs.Walk.{alpha, forward_value, beta, backward_value}
 
--- the checks, where output 5 has n places and needs T-as-S (RULES 2.4); `needs_sample` says whether no samples are refused
+-- the checks, where output 5 has n places and needs T·S (RULES 2.4); `needs_sample` says whether no samples are refused
 abbrev pub checked : Bool → Lent → ℕ → Answer
 checked needs_sample l n = check needs_sample (room (T l * S l) n ∷ []) l
 

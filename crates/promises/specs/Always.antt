@@ -89,7 +89,7 @@ rival =
       met = λ (q : Asked) (o : Rival.Outputs). [];
     }
 
--- a walk is lent one output, of T-as-S
+-- a walk is lent one output, of T·S
 abbrev pub walk : Bool → (Lent → List Float → Answer → List Float → Type 0) → Call
 walk needs_sample Promise =
     on_passage (List Float) needs_sample Promise (λ (l : Lent) (o : List Float). room (T l * S l) (length o) ∷ []) (λ (l : Lent) (o : List Float). [])

@@ -4,6 +4,7 @@
 use Rattle.std.specs.Prelude.{ℕ, ◌-◌, ◌*◌, ◌/◌, ◌%◌, ◌^◌, ◌<◌, ◌≡◌, Bool, ◌||◌, List, length, get_or, Float}
 use Rattle.floats.specs.Float as Float
 use Rattle.floats.specs.Float.{◌⊕◌, minus_infinity, is_number, is_minus_infinity, is_plus_infinity, is_infinite, is_plus_zero, at}
+use Rattle.lists.specs.Lists as Lists
 use Rattle.lists.specs.Lists.{tab, part, over, first_bad}
 use Rattle.little_endian.specs.Bytes.{little, value, words, sum}
 use Rattle.answer.specs.Answer as Spec
@@ -143,7 +144,7 @@ pub record OfChecks : Type 0 where
   pub first_bad_end : (ends : Bool) (table : List Float) → Unique (λ (r : ℕ). r ≡ first_bad (good_end ends) table)
   pub first_bad : (table : List Float) → Unique (λ (r : ℕ). r ≡ first_bad good table)
   pub check_entries : (m : Tables) → Unique (λ (r : Answer). r ≡ first_of (entry_tests m))
-  pub first_bad_sample : (symbols : ℕ) (samples : List ℕ) → Unique (λ (r : ℕ). r ≡ first_bad (is_symbol symbols) samples)
+  pub first_bad_sample : (symbols : ℕ) (samples : List ℕ) → Unique (λ (r : ℕ). r ≡ Lists.first_bad (is_symbol symbols) samples)
   pub check_samples : (symbols : ℕ) (samples : List ℕ) → Unique (λ (r : Answer). r ≡ first_of (sample_tests symbols samples))
   pub check_sizes : (needs_sample : Bool) (shape : Shape) (transition emission initial end samples : ℕ)
       → Unique (λ (r : Answer). r ≡ first_of (sizes_of needs_sample shape transition emission initial end samples))
