@@ -30,12 +30,12 @@ module _ (f : List ℕ) (r : Answer) where
   file_short h e = finds _ _ _ _ (lt-ltb (length f) 8 h) e
 
   module _ (sh : Shape) (own : sh ≡ shape_of f) (l : 8 ≤ length f) where
-    pub file_shape : (b : Bool) → b ≡ is_done r → r ≡ first_of (shape_tests sh) → not b ≡ true → r ≡ first_of (file_tests f)
+    pub file_shape : (b : Bool) → b ≡ is_done r → r ≡ first_of (shape_tests sh) → b ≡ false → r ≡ first_of (file_tests f)
     unfolding layout_tests
     file_shape b is from h =
         let own-from : r ≡ first_of (shape_tests (shape_of f)) = from ∙ ap (λ (s : Shape). first_of (shape_tests s)) own in
         passes _ _ _ _ (le-ltb _ _ l)
-        (refused_by b r (shape_tests (shape_of f)) is own-from h _ ∙ ap first_of (sym (append_assoc (shape_tests (shape_of f)) _ (sum_tests f))))
+        (refused_by b r (shape_tests (shape_of f)) is own-from (ap not h) _ ∙ ap first_of (sym (append_assoc (shape_tests (shape_of f)) _ (sum_tests f))))
 
     -- what the test of the layout is, with the length that the shape gives
     wrong_is : (p w : ℕ) (b : Bool) → p ≡ first_wrong (pattern sh) f → w ≡ offset sh (count sh) → b ≡ (ltb p w || ltb p (length f))
@@ -63,5 +63,5 @@ module _ (f : List ℕ) (r : Answer) where
         w false e h k)))
 
 -- 1 and 2 are passed
-pub file_range : (sh : Shape) (b : Bool) (r : Answer) → b ≡ is_done r → r ≡ first_of (shape_tests sh) → not b ≡ false → InRange sh
-file_range sh b r is from h = shape_in_range sh (passed_by b r (shape_tests sh) is from h (shape_refuses sh))
+pub file_range : (sh : Shape) (b : Bool) (r : Answer) → b ≡ is_done r → r ≡ first_of (shape_tests sh) → b ≡ true → InRange sh
+file_range sh b r is from h = shape_in_range sh (passed_by b r (shape_tests sh) is from (ap not h) (shape_refuses sh))
