@@ -14,7 +14,7 @@ exponent n = pos (size n) -ℤ pos 1075
 abbrev pub mantissa : ℕ → ℕ
 mantissa n = n * 2 ^ 31 / 2 ^ (size n - 1)
 
--- RULES 4.2, step 3: A becomes A-as-A / 2^31, cut
+-- RULES 4.2, step 3: A becomes A·A / 2^31, cut
 abbrev pub squared : ℕ → ℕ
 squared a = a * a / 2 ^ 31
 

@@ -8,6 +8,7 @@ use crate::steps_over;
 // Entry h is what the steps over the first seven constants make of 2^31, h giving the bits (RULES 4.1).
 // A `match` is compiled to a table of 1 KiB beside the code, where an array would be laid out on the stack anew in each call.
 // Seven: one more would double the table for one step of thirty less. An h above 127, which no G has, is worked out.
+#[tactic(auto, unfolding(crate::specs::Roots::constants, crate::specs::Exp::steps))]
 pub(crate) fn head(h: u64) -> u64
     ensures { result ≡ steps (take 7 constants) h (2 ^ 31) }
 {

@@ -1,5 +1,4 @@
 -- `kernels::ln` meets its contract: the test is on its domain, and the value the kernel's.
-use borrow.Author.Rules.{rules}
 use mathlib.Core.Path.{ap, ◌∙◌}
 use lib.Ieee.{le, of_bits}
 use Rattle.floats.specs.Float.{nought}

@@ -1,12 +1,11 @@
 -- `kernels::ln_1m_of` meets its contract: the definition, by its test.
-use borrow.Author.Rules.{rules}
 use mathlib.Core.Path.{◌≡◌, refl, sym, ap, ◌∙◌}
 use mathlib.Core.Bool.{Bool, true, false, cond}
 use lib.Ieee.{Float, binary64, of_bits, neg, lt, mul, round, size}
 use Rattle.floats.specs.Float.{one, ◌⊖◌}
 use Rattle.kernels.specs.Exp.{depth, exp_of}
 use Rattle.kernels.specs.Ln.{ln_of}
-use Rattle.kernels.specs.Ln1m.{horner, series, border, ln1m_of}
+use Rattle.kernels.specs.Ln1m.{series, border, ln1m_of}
 use Rattle.kernels.proofs.ln_1m_of.Goals as goal
 
 border_bits : of_bits binary64 0x3fe6_2d0e_5604_1893 ≡ border

@@ -1,7 +1,6 @@
 -- `kernels::ln_of` meets its contract: the definition, by the tests on x and its bits.
-use borrow.Author.Rules.{rules}
 use mathlib.Core.Path.{◌≡◌, sym, ap, ◌∙◌, subst}
-use mathlib.Core.Bool.{false}
+use mathlib.Core.Bool.{true, false}
 use lib.Dec.{T}
 use lib.IntN.{ℤ, negsuc}
 use lib.Ieee.{Float, fin, binary64, fits, of_bits, mul, of_int}
@@ -14,37 +13,33 @@ use Rattle.kernels.proofs.LnParts.{ln2_bits, above_number, above_ln, other_ln, i
 use Rattle.kernels.proofs.ln_of.Goals as goal
 
 -- an f64 parameter is a value of the format
-held : (c : goal.Start) → T (fits binary64 c.args.x)
-held c = subst T (sym c.well-formed.0.1) tt
+held : (x : Float) → fits binary64 x ≡ true → T (fits binary64 x)
+held x e = subst T (sym e) tt
 
 pub float_to_bits-bits : goal.float_to_bits-bits
 unfolding of_bits
 float_to_bits-bits c = above_number c.args.x c.if-x.true
 
 pub returns-then-bits-eq9218868437227405312 : goal.returns-then-bits-eq9218868437227405312
-returns-then-bits-eq9218868437227405312 c = infinite_ln c.args.x (held c.before.before) c.if-bits-eq9218868437227405312.true
+returns-then-bits-eq9218868437227405312 c = infinite_ln c.args.x (held c.args.x c.well_formed.0.1) c.if-bits-eq9218868437227405312.true
 
 pub ln_fixed-n-requires : goal.ln_fixed-n-requires
 unfolding of_bits
-ln_fixed-n-requires c = let s = c.before.before in
-    let x = s.args.x in
+ln_fixed-n-requires c = let x = c.args.x in
     let h = c.if-x.true in
-    (pattern_pos x (held s) h, pattern_in x (held s) h (not_infinite x c.if-bits-eq9218868437227405312.false))
+    (pattern_pos x (held x c.well_formed.0.1) h, pattern_in x (held x c.well_formed.0.1) h (not_infinite x c.if-bits-eq9218868437227405312.false))
 
 pub returns-else-bits-eq9218868437227405312 : goal.returns-else-bits-eq9218868437227405312
 unfolding ln_from of_bits
-returns-else-bits-eq9218868437227405312 c = let b = c.before in
-    let e = b.before in
-    let s = e.before.before in
-    let x = s.args.x in
-    let z = b.ln_fixed-n.result in
-    let back = to_z-of_z w64 z (record { sfits = b.ln_fixed-n.type-inv }) in
-    let same : z ≡ ln_fixed (units_of x) = b.ln_fixed-n.ensures.0 ∙ ap (λ (y : Float). ln_fixed (units_of y)) (of_bits-to_bits binary64 x (held s)) in
+returns-else-bits-eq9218868437227405312 c = let x = c.args.x in
+    let z = c.ln_fixed-n.result in
+    let back = to_z-of_z w64 z (record { sfits = c.ln_fixed-n.type_inv }) in
+    let same : z ≡ ln_fixed (units_of x) = c.ln_fixed-n.ensures.0 ∙ ap (λ (y : Float). ln_fixed (units_of y)) (of_bits-to_bits binary64 x (held x c.well_formed.0.1)) in
     ap (mul binary64 (mul binary64 (of_int binary64 _) (fin false 1 (negsuc 29)))) ln2_bits
     ∙ ap (λ (a : ℤ). mul binary64 (mul binary64 (of_int binary64 a) (fin false 1 (negsuc 29))) ln2) back
-    ∙ ap (λ (a : Float). mul binary64 a ln2) (signed_scaled z b.ln_fixed-n.ensures.1)
+    ∙ ap (λ (a : Float). mul binary64 a ln2) (signed_scaled z c.ln_fixed-n.ensures.1)
     ∙ ap (λ (a : ℤ). mul binary64 (dyadic a 30) ln2) same
-    ∙ sym (above_ln x e.if-x.true (not_infinite x e.if-bits-eq9218868437227405312.false))
+    ∙ sym (above_ln x c.if-x.true (not_infinite x c.if-bits-eq9218868437227405312.false))
 
 pub returns-else-x : goal.returns-else-x
 unfolding of_bits

@@ -1,9 +1,9 @@
 use mathlib.Core.Path.{◌≡◌, refl, sym, ap, ◌∙◌, subst}
-use mathlib.Core.Logic.{⊎_elim}
 use Prim.Native.Nat.{ℕ, ◌+◌, ◌-◌, ◌*◌, ◌/◌, ◌^◌, ◌<◌}
 use native.Mathlib.Omega.{arith}
 use Rattle.kernels.specs.Ln.{log_bits}
 use Rattle.kernels.proofs.Squares.{Squared, one_kept, zero_kept, square_lt, room, log_done}
+use Rattle.kernels.proofs.log_bits.Goals.{then-b-ge4294967296, else-b-ge4294967296}
 use Rattle.kernels.proofs.log_bits.Goals as goal
 
 pub loop-i-init : goal.loop-i-init
@@ -31,14 +31,14 @@ pub loop-i-preserved : goal.loop-i-preserved
 loop-i-preserved c = let l = c.loop-i in
     let m = c.args.m in
     let h = c.loop-i-test.true in
-    ⊎_elim
-    (λ w. subst (λ (z : ℕ). Squared m (l.i + 1) z c.if-b-ge4294967296.f) (sym w.1)
-    (subst (λ (z : ℕ). Squared m (l.i + 1) (l.a * l.a / 2 ^ 31 / 2) z) (sym w.2)
-    (one_kept m l.i l.a l.f l.invariant h w.0.taken)))
-    (λ w. subst (λ (z : ℕ). Squared m (l.i + 1) z c.if-b-ge4294967296.f) (sym w.1)
-    (subst (λ (z : ℕ). Squared m (l.i + 1) (l.a * l.a / 2 ^ 31) z) (sym w.2)
-    (zero_kept m l.i l.a l.f l.invariant h w.0.left)))
-    c.if-b-ge4294967296.branch
+    elim c.if-b-ge4294967296.branch [
+      | then-b-ge4294967296 w ↦ subst (λ (z : ℕ). Squared m (l.i + 1) z c.if-b-ge4294967296.f) (sym w.a-is)
+          (subst (λ (z : ℕ). Squared m (l.i + 1) (l.a * l.a / 2 ^ 31 / 2) z) (sym w.f-is)
+          (one_kept m l.i l.a l.f l.invariant h w.if-b-ge4294967296.true))
+      | else-b-ge4294967296 w ↦ subst (λ (z : ℕ). Squared m (l.i + 1) z c.if-b-ge4294967296.f) (sym w.a-is)
+          (subst (λ (z : ℕ). Squared m (l.i + 1) (l.a * l.a / 2 ^ 31) z) (sym w.f-is)
+          (zero_kept m l.i l.a l.f l.invariant h w.if-b-ge4294967296.false))
+    ]
 
 pub returns : goal.returns
 returns c = let l = c.loop-i in

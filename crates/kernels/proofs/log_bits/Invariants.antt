@@ -1,10 +1,6 @@
 -- `kernels::log_bits` meets its contract. The invariant: a is below 2^32, f has i bits, and the squarings left to do give the answer.
-use mathlib.Core.Path.{◌≡◌, refl, sym, ap, ◌∙◌, subst}
-use mathlib.Core.Logic.{⊎_elim}
-use Prim.Native.Nat.{ℕ, ◌+◌, ◌-◌, ◌*◌, ◌/◌, ◌^◌, ◌<◌}
-use native.Mathlib.Omega.{arith}
-use Rattle.kernels.specs.Ln.{log_bits}
-use Rattle.kernels.proofs.Squares.{Squared, one_kept, zero_kept, square_lt, room, log_done}
+use Prim.Native.Nat.{◌-◌}
+use Rattle.kernels.proofs.Squares.{Squared}
 use Rattle.kernels.proofs.log_bits.Given as goal
 
 abbrev pub invariant-loop-i : goal.invariant-loop-i

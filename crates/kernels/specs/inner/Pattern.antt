@@ -1,4 +1,4 @@
--- The fields of an f64's bits, sign clear, as the code takes them by shifts and masks: the value is digitsOf·2^placeOf units of 2^-1074.
+-- The fields of an f64's bits, sign clear, as the code takes them by shifts and masks: the value is digits_of·2^place_of units of 2^-1074.
 use Rattle.std.specs.Prelude.{ℕ, ◌+◌, ◌-◌, ◌/◌, ◌%◌, ◌^◌, cond, eqb}
 
 -- the exponent's field
