@@ -1,0 +1,17 @@
+use native.Mathlib.Omega.{arith}
+use native.Mathlib.Nat.{zero-add}
+use mathlib.Core.Path.{sym}
+use Rattle.floats.specs.Float.{minus_infinity}
+use Rattle.lists.proofs.Over.{tab_own}
+use Rattle.lists.proofs.Laid.{laid_none, laid_more, laid_done}
+use Rattle.likelihood.proofs.end_row.Goals as goal
+
+pub loop-j-init : goal.loop-j-init
+loop-j-init c = laid_none _ _ _ _
+
+pub loop-j-preserved : goal.loop-j-preserved
+loop-j-preserved c = let turn = c in
+    laid_more _ _ _ _ _ _ _ _ turn.loop-j.invariant turn.loop-j-test.true (omega arith) (sym (zero-add _)) c.entry.ensures
+
+pub returns : goal.returns
+returns c = rw (tab_own _ minus_infinity) at (laid_done _ _ _ _ _ _ c.loop-j.invariant c.loop-j-test.false)
