@@ -1,0 +1,12 @@
+-- `occupancy::state::greatest` meets its contract. The loop's invariant, `Pass1`: best is the first greatest of the t that it has met.
+use Prim.Native.Nat.{◌-◌}
+use Rattle.sums.proofs.Loops.{Pass1}
+use Rattle.occupancy.specs.Occupancy.{occupancy}
+use Rattle.occupancy.specs.inner.Rows.{rows_of}
+use Rattle.occupancy.proofs.state.greatest.Given as goal
+
+abbrev pub invariant-loop-t : goal.invariant-loop-t
+invariant-loop-t l = Pass1 l.n (occupancy (rows_of l.pass l.alpha l.beta) l.i) l.best l.t
+
+abbrev pub decreases-loop-t : goal.decreases-loop-t
+decreases-loop-t l = l.n - l.t
