@@ -4,9 +4,16 @@ use crate::print::{answer, bytes, entries, shape};
 use model::Shape;
 use model_file::{read_model, write_model};
 use program_io::lines::text;
+use std::io;
 
 // Model P, with an end state or without one, written: the answer and the lent bytes.
-fn write(label: &[u8], ends: bool, end: &[f64], file: &mut [u8]) {
+fn write(
+    rt: &impl Print,
+    label: &[u8],
+    ends: bool,
+    end: &[f64],
+    file: &mut [u8],
+) -> io::Result<()> {
     let model = Shape {
         states: 2,
         symbols: 2,
@@ -23,13 +30,13 @@ fn write(label: &[u8], ends: bool, end: &[f64], file: &mut [u8]) {
         end,
         &mut file[..],
     );
-    answer(label, a);
-    bytes(file);
-    text(b"\n");
+    answer(rt, label, a)?;
+    bytes(rt, file)?;
+    text(rt, b"\n")
 }
 
 // A file, read into tables of NaN: the answer, the shape and the tables.
-fn read(label: &[u8], file: &[u8]) {
+fn read(rt: &impl Print, label: &[u8], file: &[u8]) -> io::Result<()> {
     let nan = 0.0 / 0.0;
     let mut transition = [nan; 4];
     let mut emission = [nan; 4];
@@ -42,38 +49,39 @@ fn read(label: &[u8], file: &[u8]) {
         &mut initial[..],
         &mut end[..],
     );
-    answer(label, reading.answer);
-    shape(reading.shape);
-    entries(&transition[..]);
-    entries(&emission[..]);
-    entries(&initial[..]);
-    entries(&end[..]);
-    text(b"\n");
+    answer(rt, label, reading.answer)?;
+    shape(rt, reading.shape)?;
+    entries(rt, &transition[..])?;
+    entries(rt, &emission[..])?;
+    entries(rt, &initial[..])?;
+    entries(rt, &end[..])?;
+    text(rt, b"\n")
 }
 
 // The first n bytes, read.
-fn read_front(label: &[u8], bytes: &[u8], n: usize) {
+fn read_front(rt: &impl Print, label: &[u8], bytes: &[u8], n: usize) -> io::Result<()> {
     if n <= bytes.len() {
-        read(label, &bytes[..n]);
+        read(rt, label, &bytes[..n])?;
     }
+    Ok(())
 }
 
 // F1 to F4: the file of model P has 136 bytes, and the output one more. Byte 119 is the last of the emission body.
-pub fn model_p() {
+pub fn model_p(rt: &impl Print) -> io::Result<()> {
     let end = [0.0, 0.0];
     let mut file = [0xa5u8; 137];
-    write(b"F1", false, &end[..], &mut file[..]);
-    read_front(b"F2", &file[..], 136);
+    write(rt, b"F1", false, &end[..], &mut file[..])?;
+    read_front(rt, b"F2", &file[..], 136)?;
     file[119] = 0xbe;
-    read_front(b"F3", &file[..], 136);
+    read_front(rt, b"F3", &file[..], 136)?;
     file[119] = 0xbf;
-    read_front(b"F4", &file[..], 135);
+    read_front(rt, b"F4", &file[..], 135)
 }
 
 // F5: with an end state the file has 168 bytes.
-pub fn with_an_end() {
+pub fn with_an_end(rt: &impl Print) -> io::Result<()> {
     let end = [0.0, -4.0];
     let mut file = [0xa5u8; 169];
-    write(b"F5", true, &end[..], &mut file[..]);
-    read_front(b"F5 read", &file[..], 168);
+    write(rt, b"F5", true, &end[..], &mut file[..])?;
+    read_front(rt, b"F5 read", &file[..], 168)
 }

@@ -14,20 +14,22 @@ mod print;
 mod rivals;
 mod walks;
 
-fn main() {
-    paths::model_p();
-    paths::way_out();
-    paths::model_z();
-    walks::one_sample();
-    paths::no_beginning();
-    passes::no_mass();
-    rivals::model_p();
-    rivals::one_state();
-    rivals::model_z();
-    paths::model_a();
-    walks::model_a();
-    leaves::kernels();
-    leaves::sums();
-    files::model_p();
-    files::with_an_end();
+use std::io;
+
+fn main(rt: HostRuntime) -> io::Result<()> {
+    paths::model_p(&rt)?;
+    paths::way_out(&rt)?;
+    paths::model_z(&rt)?;
+    walks::one_sample(&rt)?;
+    paths::no_beginning(&rt)?;
+    passes::no_mass(&rt)?;
+    rivals::model_p(&rt)?;
+    rivals::one_state(&rt)?;
+    rivals::model_z(&rt)?;
+    paths::model_a(&rt)?;
+    walks::model_a(&rt)?;
+    leaves::kernels(&rt)?;
+    leaves::sums(&rt)?;
+    files::model_p(&rt)?;
+    files::with_an_end(&rt)
 }

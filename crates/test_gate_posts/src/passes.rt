@@ -3,9 +3,10 @@ use crate::print::answer;
 use baum_welch::baum_welch;
 use model::Shape;
 use program_io::lines::text;
+use std::io;
 
 // Z4: model Z, one sample, no end state. The state is never left, so that there is nothing to divide by.
-pub fn no_mass() {
+pub fn no_mass(rt: &impl Print) -> io::Result<()> {
     let shape = Shape {
         states: 2,
         symbols: 2,
@@ -36,6 +37,6 @@ pub fn no_mass() {
         &mut alpha[..],
         &mut beta[..],
     );
-    answer(b"Z4", pass);
-    text(b"\n");
+    answer(rt, b"Z4", pass)?;
+    text(rt, b"\n")
 }

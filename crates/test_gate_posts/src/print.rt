@@ -4,65 +4,71 @@ use model::Shape;
 use program_io::lines;
 use program_io::lines::{count, text};
 use program_io::words::wide;
+use std::io;
 
 // A label, and the answer's refusal, table, place and value. The line is left open.
-pub fn answer(label: &[u8], a: Answer) {
-    text(label);
-    text(b": ");
-    lines::answer(a);
+pub fn answer(rt: &impl Print, label: &[u8], a: Answer) -> io::Result<()> {
+    text(rt, label)?;
+    text(rt, b": ")?;
+    lines::answer(rt, a)
 }
 
 // A state of a path, where the path has it.
-fn state(has: bool, state: u8) {
+fn state(rt: &impl Print, has: bool, state: u8) -> io::Result<()> {
     if has {
-        text(b" ");
-        count(wide(state));
+        text(rt, b" ")?;
+        count(rt, wide(state))?;
     }
+    Ok(())
 }
 
 // The first n states of a path.
-pub fn states(path: &[u8; 3], n: usize) {
-    state(0 < n, path[0]);
-    state(1 < n, path[1]);
-    state(2 < n, path[2]);
+pub fn states(rt: &impl Print, path: &[u8; 3], n: usize) -> io::Result<()> {
+    state(rt, 0 < n, path[0])?;
+    state(rt, 1 < n, path[1])?;
+    state(rt, 2 < n, path[2])
 }
 
 // A space where there is a gap.
-fn gap(here: bool) {
+fn gap(rt: &impl Print, here: bool) -> io::Result<()> {
     if here {
-        text(b" ");
+        text(rt, b" ")?;
     }
+    Ok(())
 }
 
 // The bytes of a file in hexadecimal, eight by eight.
-pub fn bytes(file: &[u8]) {
+pub fn bytes(rt: &impl Print, file: &[u8]) -> io::Result<()> {
     let mut i = 0;
     while i < file.len() {
-        gap(i % 8 == 0);
-        io::print_hex(1, wide(file[i]), 2);
+        gap(rt, i % 8 == 0)?;
+        let byte = file[i];
+        print!(rt; "{byte:02x}")?;
         i += 1;
     }
+    Ok(())
 }
 
 // States, symbols, and 1 for an end state.
-pub fn shape(shape: Shape) {
-    text(b" ");
-    count(shape.states as u64);
-    text(b" ");
-    count(shape.symbols as u64);
+pub fn shape(rt: &impl Print, shape: Shape) -> io::Result<()> {
+    text(rt, b" ")?;
+    count(rt, shape.states as u64)?;
+    text(rt, b" ")?;
+    count(rt, shape.symbols as u64)?;
     if shape.ends {
-        text(b" 1");
+        text(rt, b" 1")
     } else {
-        text(b" 0");
+        text(rt, b" 0")
     }
 }
 
 // The bits of a table's entries.
-pub fn entries(table: &[f64]) {
+pub fn entries(rt: &impl Print, table: &[f64]) -> io::Result<()> {
     let mut i = 0;
     while i < table.len() {
-        text(b" ");
-        lines::bits(table[i]);
+        text(rt, b" ")?;
+        lines::bits(rt, table[i])?;
         i += 1;
     }
+    Ok(())
 }

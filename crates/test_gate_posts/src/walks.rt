@@ -4,9 +4,11 @@ use crate::print::answer;
 use likelihood::{backward, forward};
 use model::Shape;
 use program_io::lines::text;
+use std::io;
 
 // Both walks, with two places for their values: a line for each answer.
 fn both(
+    rt: &impl Print,
     forward_label: &[u8],
     backward_label: &[u8],
     shape: Shape,
@@ -15,7 +17,7 @@ fn both(
     initial: &[f64],
     end: &[f64],
     samples: &[u16],
-) {
+) -> io::Result<()> {
     let mut values = [0.0; 2];
     let ahead = forward(
         shape,
@@ -26,8 +28,8 @@ fn both(
         samples,
         &mut values[..],
     );
-    answer(forward_label, ahead);
-    text(b"\n");
+    answer(rt, forward_label, ahead)?;
+    text(rt, b"\n")?;
     let back = backward(
         shape,
         transition,
@@ -37,12 +39,12 @@ fn both(
         samples,
         &mut values[..],
     );
-    answer(backward_label, back);
-    text(b"\n");
+    answer(rt, backward_label, back)?;
+    text(rt, b"\n")
 }
 
 // Z2: model Z, one sample.
-pub fn one_sample() {
+pub fn one_sample(rt: &impl Print) -> io::Result<()> {
     let shape = Shape {
         states: 2,
         symbols: 2,
@@ -54,6 +56,7 @@ pub fn one_sample() {
     let end = [0.0; 2];
     let samples: [u16; 1] = [0];
     both(
+        rt,
         b"Z2 forward",
         b"Z2 backward",
         shape,
@@ -62,16 +65,17 @@ pub fn one_sample() {
         &initial[..],
         &end[..],
         &samples[..],
-    );
+    )
 }
 
 // A1 and A2: model A, two samples.
-pub fn model_a() {
+pub fn model_a(rt: &impl Print) -> io::Result<()> {
     let tiny = [TINY; 1];
     let initial = [-1.0];
     let end = [0.0];
     let samples: [u16; 2] = [0, 0];
     both(
+        rt,
         b"A1 forward",
         b"A2",
         single(),
@@ -80,5 +84,5 @@ pub fn model_a() {
         &initial[..],
         &end[..],
         &samples[..],
-    );
+    )
 }

@@ -14,7 +14,9 @@ use frozen_list::cases::{call_of, numbers_of};
 use frozen_list::tally;
 use frozen_list::tally::KINDS;
 use program_io::lines::text;
-use program_io::words::read_words;
+use program_io::words::{read_full, read_words};
+use std::io;
+use std::io::Read;
 
 // Whether the case differs from what its call does.
 fn differs(case: &[u64], call: u64) -> bool {
@@ -30,52 +32,54 @@ fn differs(case: &[u64], call: u64) -> bool {
 }
 
 // The kind of the case that fills the space; 256 where the input has no whole case.
-fn replay_case(space: &mut [u64]) -> usize {
-    if read_words(space) < space.len() {
-        return KINDS;
+fn replay_case(input: &mut impl Read, space: &mut [u64]) -> io::Result<usize> {
+    if read_words(input, space)? < space.len() {
+        return Ok(KINDS);
     }
-    tally::kind(space, differs(space, call_of(space)))
+    Ok(tally::kind(space, differs(space, call_of(space))))
 }
 
 // The kind of the next case of the input.
-fn replay_next() -> usize {
+fn replay_next(input: &mut impl Read) -> io::Result<usize> {
     let mut space = [0u64; 8192];
     let mut size = [0u64; 1];
-    if read_words(&mut size) == 1 {
+    if read_words(input, &mut size)? == 1 {
         let n = size[0] as usize;
         if n <= 8192 {
-            return replay_case(&mut space[..n]);
+            return replay_case(input, &mut space[..n]);
         }
     }
-    KINDS
+    Ok(KINDS)
 }
 
 // Whether the input is at its end.
-fn ended() -> bool {
+fn ended(input: &mut impl Read) -> io::Result<bool> {
     let mut after = [0u8; 1];
-    io::read_full(0, &mut after[..]) == 0
+    Ok(read_full(input, &mut after[..])? == 0)
 }
 
 // Replays so many cases and prints what they came to.
-fn replay(count: u64) {
+fn replay(rt: &impl Print, input: &mut impl Read, count: u64) -> io::Result<()> {
     let mut counts = [0u64; KINDS];
     let mut i = 0;
     while i < count {
-        let kind = replay_next();
+        let kind = replay_next(input)?;
         if kind >= KINDS {
             break;
         }
         tally::add(&mut counts, kind);
         i += 1;
     }
-    report::print(&counts);
-    if i < count || !ended() {
-        text(b"the list is not whole\n");
+    report::print(rt, &counts)?;
+    if i < count || !ended(input)? {
+        text(rt, b"the list is not whole\n")?;
     }
+    Ok(())
 }
 
-fn main() {
+fn main(rt: HostRuntime) -> io::Result<()> {
+    let mut input = rt.stdin();
     let mut count = [0u64; 1];
-    read_words(&mut count);
-    replay(count[0]);
+    read_words(&mut input, &mut count)?;
+    replay(&rt, &mut input, count[0])
 }
