@@ -1,4 +1,5 @@
-// The C face: thin exports over the proved calls, which flatten an answer. include/wasnugram.h is the manual.
+// The C face: the proved calls, thinly, which flatten an answer. The crate wasnugram_c exports each by its name, with the same promise.
+// include/wasnugram.h is the manual.
 
 #![tactic(auto)]
 
@@ -81,8 +82,7 @@ fn flat_shape(shape: Shape) -> WasnugramShape
 }
 
 // The best path.
-#[unsafe(no_mangle)]
-pub extern "C" fn wasnugram_viterbi(
+pub fn wasnugram_viterbi(
     shape: WasnugramShape,
     transition: &[f64],
     emission: &[f64],
@@ -111,8 +111,7 @@ pub extern "C" fn wasnugram_viterbi(
 }
 
 // The strongest rival of the best path at a sample.
-#[unsafe(no_mangle)]
-pub extern "C" fn wasnugram_rival(
+pub fn wasnugram_rival(
     shape: WasnugramShape,
     transition: &[f64],
     emission: &[f64],
@@ -151,8 +150,7 @@ pub extern "C" fn wasnugram_rival(
 }
 
 // The forward walk: how likely the samples are.
-#[unsafe(no_mangle)]
-pub extern "C" fn wasnugram_forward(
+pub fn wasnugram_forward(
     shape: WasnugramShape,
     transition: &[f64],
     emission: &[f64],
@@ -175,8 +173,7 @@ pub extern "C" fn wasnugram_forward(
 }
 
 // The same from the end: the backward walk.
-#[unsafe(no_mangle)]
-pub extern "C" fn wasnugram_backward(
+pub fn wasnugram_backward(
     shape: WasnugramShape,
     transition: &[f64],
     emission: &[f64],
@@ -199,8 +196,7 @@ pub extern "C" fn wasnugram_backward(
 }
 
 // One training pass.
-#[unsafe(no_mangle)]
-pub extern "C" fn wasnugram_baum_welch(
+pub fn wasnugram_baum_welch(
     shape: WasnugramShape,
     transition: &[f64],
     emission: &[f64],
@@ -245,8 +241,7 @@ pub extern "C" fn wasnugram_baum_welch(
 }
 
 // Reads a model file into four lent tables.
-#[unsafe(no_mangle)]
-pub extern "C" fn wasnugram_read_model(
+pub fn wasnugram_read_model(
     file: &[u8],
     transition: &mut [f64],
     emission: &mut [f64],
@@ -269,8 +264,7 @@ pub extern "C" fn wasnugram_read_model(
 }
 
 // Writes the file of a model.
-#[unsafe(no_mangle)]
-pub extern "C" fn wasnugram_write_model(
+pub fn wasnugram_write_model(
     shape: WasnugramShape,
     transition: &[f64],
     emission: &[f64],
@@ -291,8 +285,7 @@ pub extern "C" fn wasnugram_write_model(
 }
 
 // The bytes of a file of this shape.
-#[unsafe(no_mangle)]
-pub extern "C" fn wasnugram_model_file_length(shape: WasnugramShape) -> usize
+pub fn wasnugram_model_file_length(shape: WasnugramShape) -> usize
     ensures { result ≡ length_of (shape_of shape) }
 {
     let shape = Shape {
@@ -304,64 +297,56 @@ pub extern "C" fn wasnugram_model_file_length(shape: WasnugramShape) -> usize
 }
 
 // exp(d), d at most 0.
-#[unsafe(no_mangle)]
-pub extern "C" fn wasnugram_exp(d: f64) -> WasnugramAnswer
+pub fn wasnugram_exp(d: f64) -> WasnugramAnswer
     ensures { Answers (λ (a : Answer). a ≡ exp_answer d) result }
 {
     flat(kernels::exp(d))
 }
 
 // ln(x), x at least 0.
-#[unsafe(no_mangle)]
-pub extern "C" fn wasnugram_ln(x: f64) -> WasnugramAnswer
+pub fn wasnugram_ln(x: f64) -> WasnugramAnswer
     ensures { Answers (λ (a : Answer). a ≡ ln_answer x) result }
 {
     flat(kernels::ln(x))
 }
 
 // ln(1 - exp(p)), p at most 0.
-#[unsafe(no_mangle)]
-pub extern "C" fn wasnugram_ln_one_minus_exp(p: f64) -> WasnugramAnswer
+pub fn wasnugram_ln_one_minus_exp(p: f64) -> WasnugramAnswer
     ensures { Answers (λ (a : Answer). a ≡ ln1m_answer p) result }
 {
     flat(LogProb(p).ln_one_minus_exp())
 }
 
 // ln of the sum of exp over a lent slice.
-#[unsafe(no_mangle)]
-pub extern "C" fn wasnugram_ln_sum_exp(probs: &[f64]) -> WasnugramAnswer
+pub fn wasnugram_ln_sum_exp(probs: &[f64]) -> WasnugramAnswer
     ensures { Answers (λ (a : Answer). a ≡ ln_sum_exp_answer probs.now) result }
 {
     flat(LogProb::ln_sum_exp(probs))
 }
 
 // ln(exp(p0) + exp(p1)).
-#[unsafe(no_mangle)]
-pub extern "C" fn wasnugram_ln_add_exp(p0: f64, p1: f64) -> WasnugramAnswer
+pub fn wasnugram_ln_add_exp(p0: f64, p1: f64) -> WasnugramAnswer
     ensures { Answers (λ (a : Answer). a ≡ ln_add_exp_answer p0 p1) result }
 {
     flat(LogProb(p0).ln_add_exp(LogProb(p1)))
 }
 
 // ln(exp(p0) - exp(p1)).
-#[unsafe(no_mangle)]
-pub extern "C" fn wasnugram_ln_sub_exp(p0: f64, p1: f64) -> WasnugramAnswer
+pub fn wasnugram_ln_sub_exp(p0: f64, p1: f64) -> WasnugramAnswer
     ensures { Answers (λ (a : Answer). a ≡ ln_sub_exp_answer p0 p1) result }
 {
     flat(LogProb(p0).ln_sub_exp(LogProb(p1)))
 }
 
 // The running sums of a lent slice, into output 5.
-#[unsafe(no_mangle)]
-pub extern "C" fn wasnugram_ln_cumsum_exp(probs: &[f64], sums: &mut [f64]) -> WasnugramAnswer
+pub fn wasnugram_ln_cumsum_exp(probs: &[f64], sums: &mut [f64]) -> WasnugramAnswer
     ensures { Answers (λ (a : Answer). Cumulated probs.now sums.old sums.new a) result }
 {
     flat(LogProb::ln_cumsum_exp(probs, sums))
 }
 
 // The value, or 0.0 where it is above 0 by at most epsilon.
-#[unsafe(no_mangle)]
-pub extern "C" fn wasnugram_cap_numerical_overshoot(value: f64, epsilon: f64) -> WasnugramAnswer
+pub fn wasnugram_cap_numerical_overshoot(value: f64, epsilon: f64) -> WasnugramAnswer
     ensures { Answers (λ (a : Answer). a ≡ cap_answer value epsilon) result }
 {
     flat(LogProb(value).cap_numerical_overshoot(epsilon))

@@ -1,0 +1,260 @@
+// The exports of the C face: each is the call of wasnugram of its name, with the same promise. A crate is a library or an archive for C,
+// so that wasnugram, on which the promises of every call stand, exports nothing itself. include/wasnugram.h is the manual.
+
+#![tactic(auto)]
+
+ghost use Rattle.std.specs.Prelude.{◌≡◌};
+ghost use Rattle.answer.specs.declared.Answer.{Answer};
+ghost use Rattle.kernels.specs.Calls.{exp_answer, ln_answer, ln1m_answer};
+ghost use Rattle.probs.specs.Calls.{ln_sum_exp_answer, ln_add_exp_answer, ln_sub_exp_answer, cap_answer, Cumulated};
+ghost use Rattle.model.specs.Lent.{tables_of, lent};
+ghost use Rattle.viterbi.specs.Call.{Decoded, outputs};
+ghost use Rattle.rival.specs.declared.Rivalry.{Rivalry};
+ghost use Rattle.rival.specs.Call.{asked, Told, outputs as rivals};
+ghost use Rattle.likelihood.specs.Call.{Forward, Backward};
+ghost use Rattle.baum_welch.specs.Call.{Trained, outputs as trained};
+ghost use Rattle.model_file.specs.declared.Reading.{Reading};
+ghost use Rattle.model_file.specs.Call.{Read, Written, length_of, outputs as tables};
+ghost use Rattle.wasnugram.specs.Face.{shape_of, Answers, Reads, Tells};
+
+use wasnugram::{WasnugramAnswer, WasnugramReading, WasnugramRivalry, WasnugramShape};
+
+// The best path.
+#[unsafe(no_mangle)]
+pub extern "C" fn wasnugram_viterbi(
+    shape: WasnugramShape,
+    transition: &[f64],
+    emission: &[f64],
+    initial: &[f64],
+    end: &[f64],
+    samples: &[u16],
+    path: &mut [u8],
+    values: &mut [f64],
+    from: &mut [u8],
+) -> WasnugramAnswer
+    ensures { Answers (λ (a : Answer). Decoded
+        (lent (shape_of shape) transition.now emission.now initial.now end.now
+        samples.now)
+        (outputs path.old values.old from.old)
+        a
+        (outputs path.new values.new from.new)) result }
+{
+    wasnugram::wasnugram_viterbi(
+        shape, transition, emission, initial, end, samples, path, values, from,
+    )
+}
+
+// The strongest rival of the best path at a sample.
+#[unsafe(no_mangle)]
+pub extern "C" fn wasnugram_rival(
+    shape: WasnugramShape,
+    transition: &[f64],
+    emission: &[f64],
+    initial: &[f64],
+    end: &[f64],
+    samples: &[u16],
+    index: usize,
+    path: &mut [u8],
+    rival_path: &mut [u8],
+    values: &mut [f64],
+    from: &mut [u8],
+) -> WasnugramRivalry
+    ensures { Tells (λ (a : Rivalry). Told
+        (asked
+        (lent (shape_of shape) transition.now emission.now initial.now end.now
+        samples.now)
+        index)
+        (rivals path.old rival_path.old values.old from.old)
+        a
+        (rivals path.new rival_path.new values.new from.new)) result }
+{
+    wasnugram::wasnugram_rival(
+        shape, transition, emission, initial, end, samples, index, path, rival_path, values, from,
+    )
+}
+
+// The forward walk: how likely the samples are.
+#[unsafe(no_mangle)]
+pub extern "C" fn wasnugram_forward(
+    shape: WasnugramShape,
+    transition: &[f64],
+    emission: &[f64],
+    initial: &[f64],
+    end: &[f64],
+    samples: &[u16],
+    values: &mut [f64],
+) -> WasnugramAnswer
+    ensures { Answers (λ (a : Answer). Forward
+        (lent (shape_of shape) transition.now emission.now initial.now end.now
+        samples.now)
+        values.old a values.new) result }
+{
+    wasnugram::wasnugram_forward(shape, transition, emission, initial, end, samples, values)
+}
+
+// The same from the end: the backward walk.
+#[unsafe(no_mangle)]
+pub extern "C" fn wasnugram_backward(
+    shape: WasnugramShape,
+    transition: &[f64],
+    emission: &[f64],
+    initial: &[f64],
+    end: &[f64],
+    samples: &[u16],
+    values: &mut [f64],
+) -> WasnugramAnswer
+    ensures { Answers (λ (a : Answer). Backward
+        (lent (shape_of shape) transition.now emission.now initial.now end.now
+        samples.now)
+        values.old a values.new) result }
+{
+    wasnugram::wasnugram_backward(shape, transition, emission, initial, end, samples, values)
+}
+
+// One training pass.
+#[unsafe(no_mangle)]
+pub extern "C" fn wasnugram_baum_welch(
+    shape: WasnugramShape,
+    transition: &[f64],
+    emission: &[f64],
+    initial: &[f64],
+    end: &[f64],
+    samples: &[u16],
+    new_transition: &mut [f64],
+    new_emission: &mut [f64],
+    new_initial: &mut [f64],
+    new_end: &mut [f64],
+    alpha: &mut [f64],
+    beta: &mut [f64],
+) -> WasnugramAnswer
+    ensures { Answers (λ (a : Answer). Trained
+        (lent (shape_of shape) transition.now emission.now initial.now end.now
+        samples.now)
+        (trained new_transition.old new_emission.old new_initial.old new_end.old
+        alpha.old beta.old)
+        a
+        (trained new_transition.new new_emission.new new_initial.new new_end.new
+        alpha.new beta.new)) result }
+{
+    wasnugram::wasnugram_baum_welch(
+        shape,
+        transition,
+        emission,
+        initial,
+        end,
+        samples,
+        new_transition,
+        new_emission,
+        new_initial,
+        new_end,
+        alpha,
+        beta,
+    )
+}
+
+// Reads a model file into four lent tables.
+#[unsafe(no_mangle)]
+pub extern "C" fn wasnugram_read_model(
+    file: &[u8],
+    transition: &mut [f64],
+    emission: &mut [f64],
+    initial: &mut [f64],
+    end: &mut [f64],
+) -> WasnugramReading
+    ensures { Reads (λ (a : Reading). Read
+        file.now
+        (tables transition.old emission.old initial.old end.old)
+        a
+        (tables transition.new emission.new initial.new end.new)) result }
+{
+    wasnugram::wasnugram_read_model(file, transition, emission, initial, end)
+}
+
+// Writes the file of a model.
+#[unsafe(no_mangle)]
+pub extern "C" fn wasnugram_write_model(
+    shape: WasnugramShape,
+    transition: &[f64],
+    emission: &[f64],
+    initial: &[f64],
+    end: &[f64],
+    file: &mut [u8],
+) -> WasnugramAnswer
+    ensures { Answers (λ (a : Answer). Written
+        (tables_of (shape_of shape) transition.now emission.now initial.now end.now)
+        file.old a file.new) result }
+{
+    wasnugram::wasnugram_write_model(shape, transition, emission, initial, end, file)
+}
+
+// The bytes of a file of this shape.
+#[unsafe(no_mangle)]
+pub extern "C" fn wasnugram_model_file_length(shape: WasnugramShape) -> usize
+    ensures { result ≡ length_of (shape_of shape) }
+{
+    wasnugram::wasnugram_model_file_length(shape)
+}
+
+// exp(d), d at most 0.
+#[unsafe(no_mangle)]
+pub extern "C" fn wasnugram_exp(d: f64) -> WasnugramAnswer
+    ensures { Answers (λ (a : Answer). a ≡ exp_answer d) result }
+{
+    wasnugram::wasnugram_exp(d)
+}
+
+// ln(x), x at least 0.
+#[unsafe(no_mangle)]
+pub extern "C" fn wasnugram_ln(x: f64) -> WasnugramAnswer
+    ensures { Answers (λ (a : Answer). a ≡ ln_answer x) result }
+{
+    wasnugram::wasnugram_ln(x)
+}
+
+// ln(1 - exp(p)), p at most 0.
+#[unsafe(no_mangle)]
+pub extern "C" fn wasnugram_ln_one_minus_exp(p: f64) -> WasnugramAnswer
+    ensures { Answers (λ (a : Answer). a ≡ ln1m_answer p) result }
+{
+    wasnugram::wasnugram_ln_one_minus_exp(p)
+}
+
+// ln of the sum of exp over a lent slice.
+#[unsafe(no_mangle)]
+pub extern "C" fn wasnugram_ln_sum_exp(probs: &[f64]) -> WasnugramAnswer
+    ensures { Answers (λ (a : Answer). a ≡ ln_sum_exp_answer probs.now) result }
+{
+    wasnugram::wasnugram_ln_sum_exp(probs)
+}
+
+// ln(exp(p0) + exp(p1)).
+#[unsafe(no_mangle)]
+pub extern "C" fn wasnugram_ln_add_exp(p0: f64, p1: f64) -> WasnugramAnswer
+    ensures { Answers (λ (a : Answer). a ≡ ln_add_exp_answer p0 p1) result }
+{
+    wasnugram::wasnugram_ln_add_exp(p0, p1)
+}
+
+// ln(exp(p0) - exp(p1)).
+#[unsafe(no_mangle)]
+pub extern "C" fn wasnugram_ln_sub_exp(p0: f64, p1: f64) -> WasnugramAnswer
+    ensures { Answers (λ (a : Answer). a ≡ ln_sub_exp_answer p0 p1) result }
+{
+    wasnugram::wasnugram_ln_sub_exp(p0, p1)
+}
+
+// The running sums of a lent slice, into output 5.
+#[unsafe(no_mangle)]
+pub extern "C" fn wasnugram_ln_cumsum_exp(probs: &[f64], sums: &mut [f64]) -> WasnugramAnswer
+    ensures { Answers (λ (a : Answer). Cumulated probs.now sums.old sums.new a) result }
+{
+    wasnugram::wasnugram_ln_cumsum_exp(probs, sums)
+}
+
+// The value, or 0.0 where it is above 0 by at most epsilon.
+#[unsafe(no_mangle)]
+pub extern "C" fn wasnugram_cap_numerical_overshoot(value: f64, epsilon: f64) -> WasnugramAnswer
+    ensures { Answers (λ (a : Answer). a ≡ cap_answer value epsilon) result }
+{
+    wasnugram::wasnugram_cap_numerical_overshoot(value, epsilon)
+}
