@@ -50,12 +50,12 @@ module _ (f : List ℕ) (a b c d : ℕ) where
 
   -- the code's answers
   module _ (t : Bool) (r : Answer) (is : t ≡ is_done r) where
-    pub read_file : r ≡ first_of (file_tests f) → not t ≡ true → r ≡ first_of (read_tests f a b c d)
+    pub read_file : r ≡ first_of (file_tests f) → t ≡ false → r ≡ first_of (read_tests f a b c d)
     unfolding read_tests
-    read_file e h = refused_by t r (file_tests f) is e h _
+    read_file e h = refused_by t r (file_tests f) is e (ap not h) _
 
-    pub passed_file : r ≡ first_of (file_tests f) → not t ≡ false → Clear (file_tests f)
-    passed_file e h = passed_by t r (file_tests f) is e h (file_refuses f)
+    pub passed_file : r ≡ first_of (file_tests f) → t ≡ true → Clear (file_tests f)
+    passed_file e h = passed_by t r (file_tests f) is e (ap not h) (file_refuses f)
 
     -- what the code needs of each table, worked out of the shape that it read
     module _ (sh : Shape) (own : sh ≡ shape_of f)
@@ -68,15 +68,15 @@ module _ (f : List ℕ) (a b c d : ℕ) where
           ∙ ap (λ (s : Shape). first_of (room_tests false 6
           (room (s.states * s.states) a ∷ room (s.states * s.symbols) b ∷ room s.states c ∷ room s.states d ∷ []))) own
 
-      pub read_rooms_lem : Clear (file_tests f) → not t ≡ true → r ≡ first_of (read_tests f a b c d)
+      pub read_rooms_lem : Clear (file_tests f) → t ≡ false → r ≡ first_of (read_tests f a b c d)
       unfolding read_tests
-      read_rooms_lem k h = goes_on (file_tests f) (rooms ++ word_tests f) r (refused_by t r rooms is own_rooms h (word_tests f)) k
+      read_rooms_lem k h = goes_on (file_tests f) (rooms ++ word_tests f) r (refused_by t r rooms is own_rooms (ap not h) (word_tests f)) k
 
-      pub read_words : Clear (file_tests f) → not t ≡ false → (q : Answer) → q ≡ first_of (word_tests f) → q ≡ first_of (read_tests f a b c d)
+      pub read_words : Clear (file_tests f) → t ≡ true → (q : Answer) → q ≡ first_of (word_tests f) → q ≡ first_of (read_tests f a b c d)
       unfolding read_tests
       read_words k h q w =
           goes_on (file_tests f) (rooms ++ word_tests f) q
-          (goes_on rooms (word_tests f) q w (passed_by t r rooms is own_rooms h (rooms_refuse false 6 needed))) k
+          (goes_on rooms (word_tests f) q w (passed_by t r rooms is own_rooms (ap not h) (rooms_refuse false 6 needed))) k
 
   -- ---- a reader that is done
   pub record Readable : Type 0 where

@@ -1,0 +1,25 @@
+-- `model_file::pack::put_contents` meets its contract: three entries one after the other, and the fourth where there is an end state.
+use Rattle.std.proofs.Common.{refl, arith}
+use Rattle.file_layout.proofs.Bounds.{count_low}
+use Rattle.model_file.proofs.Writes.{contents_3, contents_4, entries_room, entry_room_1, entry_room_2, entry_room_3}
+use Rattle.model_file.proofs.pack.put_contents.Goals as goal
+
+pub put_entry-requires : goal.put_entry-requires
+put_entry-requires c =
+    (c.requires.in_range, omega arith, entries_room _ _ c.requires 0 (omega (arith, count_low c.args.shape)), c.requires.numbers 0)
+
+pub put_entry-requires-2 : goal.put_entry-requires-2
+put_entry-requires-2 c = (c.requires.in_range, omega arith, entry_room_1 _ _ c.requires c.args.file.now refl _ c.put_entry.ensures, c.requires.numbers 1)
+
+pub put_entry-requires-3 : goal.put_entry-requires-3
+put_entry-requires-3 c = (c.requires.in_range, omega arith, entry_room_2 _ _ c.requires c.args.file.now refl _ c.put_entry.ensures _ c.put_entry-2.ensures, c.requires.numbers 2)
+
+pub returns-then-not-shape : goal.returns-then-not-shape
+returns-then-not-shape c = contents_3 _ _ c.requires c.args.file.now refl _ c.put_entry.ensures _ c.put_entry-2.ensures _ c.put_entry-3.ensures c.if-not-shape.true
+
+pub put_entry-requires-4 : goal.put_entry-requires-4
+put_entry-requires-4 c =
+    (c.requires.in_range, omega arith, entry_room_3 _ _ c.requires c.args.file.now refl _ c.put_entry.ensures _ c.put_entry-2.ensures _ c.put_entry-3.ensures c.if-not-shape.false, c.requires.numbers 3)
+
+pub returns : goal.returns
+returns c = contents_4 _ _ c.requires c.args.file.now refl _ c.put_entry.ensures _ c.put_entry-2.ensures _ c.put_entry-3.ensures c.if-not-shape.false _ c.put_entry-4.ensures
