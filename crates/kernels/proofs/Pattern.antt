@@ -1,4 +1,4 @@
--- Bits whose sign is clear and whose exponent's field is not all ones stand for digitsOf·2^placeOf units of 2^-1074; and 2^-k, put together from
+-- Bits whose sign is clear and whose exponent's field is not all ones stand for digits_of·2^place_of units of 2^-1074; and 2^-k, put together from
 -- its field, by which a whole number is scaled.
 use mathlib.Core.Path.{◌≡◌, sym, ap, ◌∙◌, subst}
 use mathlib.Core.Bool.{Bool, true, false, not, cond}
