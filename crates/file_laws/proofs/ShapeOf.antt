@@ -61,7 +61,7 @@ ends_one true false e = absurd (omega arith)
 ends_one false true e = absurd (omega arith)
 ends_one false false e = refl
 
--- three offsets give the number of entries, S-as-S and S-as-M
+-- three offsets give the number of entries, S·S and S·M
 offsets_one : (a b : Shape) → 0 < a.states → offset a 0 ≡ offset b 0 → offset a 1 ≡ offset b 1 → offset a 2 ≡ offset b 2 → a ≡ b
 unfolding offset size
 offsets_one a b h e0 e1 e2 =

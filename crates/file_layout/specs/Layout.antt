@@ -16,7 +16,7 @@ module _ (shape : Shape) where
   abbrev pub count : ℕ
   count = cond shape.ends 4 3
 
-  -- the words of table i: S-as-S, S-as-M, S and S
+  -- the words of table i: S·S, S·M, S and S
   unfoldable pub size : ℕ → ℕ
   size zero = shape.states * shape.states
   size (suc zero) = shape.states * shape.symbols

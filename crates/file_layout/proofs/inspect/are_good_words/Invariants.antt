@@ -1,4 +1,4 @@
--- `model_file::inspect::are_good_words` meets its contract. The loop's invariant: the gathered marks are set where no word below i is bad.
+-- `file_layout::inspect::are_good_words` meets its contract. The loop's invariant: the gathered marks are set where no word below i is bad.
 use Prim.Native.Nat.{◌-◌, ◌*◌, ◌≤◌, ◌<◌, ◌^◌}
 use mathlib.Core.Path.{◌≡◌}
 use lib.Dec.{leb}

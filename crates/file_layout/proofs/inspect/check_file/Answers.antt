@@ -1,4 +1,4 @@
--- `model_file::inspect::check_file` meets its contract: the tests in their order, each made where those before it found no fault.
+-- `file_layout::inspect::check_file` meets its contract: the tests in their order, each made where those before it found no fault.
 use Prim.Native.Nat.{ℕ}
 use mathlib.Core.Path.{◌≡◌, sym, ap, ◌∙◌}
 use native.Mathlib.Omega.{arith}

@@ -1,4 +1,4 @@
--- `model_file::inspect::check_sums` meets its contract. The loop's invariant, `Cleared`: no test below i found fault.
+-- `file_layout::inspect::check_sums` meets its contract. The loop's invariant, `Cleared`: no test below i found fault.
 use Prim.Native.Nat.{◌-◌}
 use Rattle.file_layout.specs.Checks.{sum_test}
 use Rattle.file_layout.specs.Layout.{count}

@@ -1,4 +1,4 @@
--- `model_file::inspect::check_words` meets its contract. The loop's invariant, `Cleared`: no test below i found fault.
+-- `file_layout::inspect::check_words` meets its contract. The loop's invariant, `Cleared`: no test below i found fault.
 use Prim.Native.Nat.{◌-◌}
 use Rattle.file_layout.specs.Checks.{word_test}
 use Rattle.file_layout.specs.Layout.{count}

@@ -1,4 +1,4 @@
--- `model_file::inspect::first_bad_of` meets its contract: the body is where the layout says, and where all of it is good no place is searched.
+-- `file_layout::inspect::first_bad_of` meets its contract: the body is where the layout says, and where all of it is good no place is searched.
 use mathlib.Core.Path.{sym, ◌∙◌}
 use native.Mathlib.Omega.{arith}
 use Rattle.lists.specs.Lists.{first_bad}

@@ -1,4 +1,4 @@
--- `model_file::inspect::first_bad_word` meets its contract. The loop's invariant, `Passed`: every word below i is good.
+-- `file_layout::inspect::first_bad_word` meets its contract. The loop's invariant, `Passed`: every word below i is good.
 use Prim.Native.Nat.{◌-◌, ◌*◌}
 use Rattle.lists.specs.Lists.{part}
 use Rattle.lists.proofs.Scan.{Passed}

@@ -1,4 +1,4 @@
--- `model_file::inspect::first_wrong` meets its contract. The loop's invariant, `Met`: every byte below p is right; past the contents only
+-- `file_layout::inspect::first_wrong` meets its contract. The loop's invariant, `Met`: every byte below p is right; past the contents only
 -- the length can be wrong.
 use Prim.Native.Nat.{◌-◌}
 use Rattle.file_layout.proofs.Scanned.{Met}

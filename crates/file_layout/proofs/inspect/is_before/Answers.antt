@@ -1,4 +1,4 @@
--- `model_file::inspect::is_before` meets its contract: the second test is made where the first is not met.
+-- `file_layout::inspect::is_before` meets its contract: the second test is made where the first is not met.
 use borrow.Author.Tests.{lt-ltb, le-ltb}
 use Rattle.file_layout.proofs.inspect.is_before.Goals as goal
 

@@ -1,4 +1,4 @@
--- `model_file::inspect::is_met` meets its contract: by the place.
+-- `file_layout::inspect::is_met` meets its contract: by the place.
 use native.Mathlib.Omega.{arith}
 use Rattle.file_layout.proofs.Bounds.{count_high}
 use Rattle.file_layout.proofs.Scanned.{met_first, met_label, met_sum, row_of}

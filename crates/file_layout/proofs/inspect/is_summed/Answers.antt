@@ -1,4 +1,4 @@
--- `model_file::inspect::is_summed` meets its contract: the body and the sum are where the layout says.
+-- `file_layout::inspect::is_summed` meets its contract: the body and the sum are where the layout says.
 use mathlib.Core.Path.{◌∙◌, ap₂}
 use native.Mathlib.Omega.{arith}
 use lib.Dec.{eqb}

@@ -1,4 +1,4 @@
--- `model_file::inspect::shape_of` meets its contract: field by field.
+-- `file_layout::inspect::shape_of` meets its contract: field by field.
 use mathlib.Core.Path.{refl}
 use Rattle.file_layout.specs.Reading.{shape_of}
 use Rattle.file_layout.proofs.Bounds.{shape_same}

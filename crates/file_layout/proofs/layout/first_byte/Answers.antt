@@ -1,4 +1,4 @@
--- `model_file::layout::first_byte` meets its contract: by which of the four numbers the byte is in.
+-- `file_layout::layout::first_byte` meets its contract: by which of the four numbers the byte is in.
 use Prim.Native.Nat.{ℕ, ◌-◌, ◌*◌, ◌/◌, ◌%◌, ◌^◌}
 use mathlib.Core.Path.{ap, ◌∙◌}
 use Rattle.file_layout.proofs.ByteAt.{first_0, first_1, first_2, first_3}

@@ -1,4 +1,4 @@
--- `model_file::layout::label_byte` meets its contract: a byte of the number, or of the offset.
+-- `file_layout::layout::label_byte` meets its contract: a byte of the number, or of the offset.
 use Prim.Native.Nat.{ℕ, ◌-◌, ◌*◌, ◌/◌, ◌%◌, ◌^◌}
 use mathlib.Core.Path.{ap, ◌∙◌}
 use Rattle.file_layout.proofs.ByteAt.{label_0, label_1}

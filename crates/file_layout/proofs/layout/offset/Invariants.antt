@@ -1,4 +1,4 @@
--- `model_file::layout::offset` meets its contract. The loop's invariant: `at` is where body k starts.
+-- `file_layout::layout::offset` meets its contract. The loop's invariant: `at` is where body k starts.
 use Prim.Native.Nat.{◌-◌, ◌≤◌}
 use mathlib.Core.Path.{◌≡◌}
 use Rattle.file_layout.specs.Layout.{offset}

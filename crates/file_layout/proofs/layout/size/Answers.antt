@@ -1,4 +1,4 @@
--- `model_file::layout::size` meets its contract: by the tests of the table's number.
+-- `file_layout::layout::size` meets its contract: by the tests of the table's number.
 use native.Mathlib.Omega.{arith}
 use Rattle.file_layout.proofs.Bounds.{product_small, size_0, size_1, size_2, square_small}
 use Rattle.file_layout.proofs.layout.size.Goals as goal
