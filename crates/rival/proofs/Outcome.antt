@@ -22,7 +22,7 @@ use Rattle.model.specs.Lent.{Lent, S, T}
 use Rattle.model.specs.Model.{model_of}
 use Rattle.checks.specs.Checks.{tests_of, passage, check}
 use Rattle.checks.proofs.Done.{passage_refuses}
-use Rattle.best_path.specs.Walk.{value, from, best_value}
+use Rattle.best_path.specs.Walk.{best_value}
 use Rattle.best_path.specs.Score.{state_at}
 use Rattle.walk.specs.Barred.{barred}
 use Rattle.walk.specs.inner.Path as Walk

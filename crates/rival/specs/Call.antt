@@ -23,7 +23,7 @@ pub record Asked : Type 0 where
 abbrev pub asked : Lent → ℕ → Asked
 asked l index = record { lent = l; index = index }
 
--- outputs 5 to 8: path bytes T, rival path bytes T, values T-as-S, predecessor bytes T-as-S
+-- outputs 5 to 8: path bytes T, rival path bytes T, values T·S, predecessor bytes T·S
 pub record Outputs : Type 0 where
   pub path : List ℕ
   pub rival_path : List ℕ

@@ -9,7 +9,7 @@ use Rattle.checks.specs.Rooms.{Room, room}
 use Rattle.checks.specs.Checks.{check}
 use Rattle.best_path.specs.Walk.{value, from, best_path, best_value}
 
--- outputs 5, 6 and 7: path bytes T, values T-as-S, predecessor bytes T-as-S
+-- outputs 5, 6 and 7: path bytes T, values T·S, predecessor bytes T·S
 pub record Outputs : Type 0 where
   pub path : List ℕ
   pub values : List Float
