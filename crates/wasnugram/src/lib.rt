@@ -1,5 +1,5 @@
-// The C face: the proved calls, thinly, which flatten an answer. The crate wasnugram_c exports each by its name, with the same promise.
-// include/wasnugram.h is the manual.
+// The C face: thin calls over the proved ones, which flatten an answer. The crate wasnugram_c exports each under its name, with the same
+// promise. include/wasnugram.h is the manual.
 
 #![tactic(auto)]
 

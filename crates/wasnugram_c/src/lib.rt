@@ -1,5 +1,6 @@
-// The exports of the C face: each is the call of wasnugram of its name, with the same promise. A crate is a library or an archive for C,
-// so that wasnugram, on which the promises of every call stand, exports nothing itself. include/wasnugram.h is the manual.
+// The exports of the C face: each makes the call of the crate wasnugram that has its name, with the same promise. They are a crate of
+// their own, since a crate is a library or an archive for C and not both, and other crates stand on the library. include/wasnugram.h is the
+// manual.
 
 #![tactic(auto)]
 
