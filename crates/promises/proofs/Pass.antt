@@ -1,5 +1,5 @@
 -- A training pass never gives 10, and its new model is accepted again.
-use Prim.Native.Nat.{ℕ, ◌+◌, ◌<◌}
+use Prim.Native.Nat.{ℕ, ◌<◌}
 use native.Mathlib.Omega.{arith}
 use mathlib.Core.Path.{◌≡◌, sym, ap, ap₂, subst}
 use mathlib.Core.Logic.{⊎_elim}
@@ -8,7 +8,6 @@ use mathlib.Core.List.{List, [], ◌∷◌, ◌++◌}
 use lib.Dec as Dec
 use lib.Dec.{ltb, ltb→lt}
 use lib.Ieee.Fits.{and_l, and_r}
-use Rattle.lists.specs.Lists.{table}
 use Rattle.answer.specs.Answer.{number_of, is_done, done}
 use Rattle.answer.specs.declared.Answer.{Answer}
 use Rattle.model.specs.Lent.{Lent, S, M, T, tables_of}
