@@ -1,5 +1,5 @@
 // Words of 8 bytes, little-endian, from standard input, and the f64 that they are the bits of.
-ghost use Rattle.std.specs.Prelude.{◌≡◌, ◌<◌, ◌≤◌, IfOk, length};
+ghost use Rattle.std.specs.Prelude.{◌≡◌, ◌<◌, ◌≤◌, IfOk, OnErr, length};
 ghost use Rattle.std.specs.Float.Ieee.{of_bits};
 ghost use Rattle.std.specs.Float.{binary64};
 ghost use Rattle.program_io.specs.Words.{word_of, word_at};
@@ -24,9 +24,11 @@ fn word(b: &[u8; 8]) -> u64
     (x * 256 + wide(b[1])) * 256 + wide(b[0])
 }
 
-// Reads until the buffer is full or the input ends, and how many bytes are then in its front.
+// Reads until the buffer is full or the input ends, and how many bytes are then in its front. A failed read is returned: what was read by
+// then stands in the front, and the buffer is as long as it was.
 pub fn read_full(input: &mut impl Read, buf: &mut [u8]) -> io::Result<usize>
-    ensures { IfOk result (λ n. n ≤ length buf.old) }
+    ensures count { IfOk result (λ n. n ≤ length buf.old) }
+    ensures failed { OnErr result (length buf.new ≡ length buf.old) }
 {
     let mut n = 0;
     while n < buf.len() {
@@ -39,9 +41,11 @@ pub fn read_full(input: &mut impl Read, buf: &mut [u8]) -> io::Result<usize>
     Ok(n)
 }
 
-// The next words of the input, into the front of `into`, and how many there were.
+// The next words of the input, into the front of `into`, and how many there were. A failed read is returned: what was read by then stands
+// in the front, and `into` is as long as it was.
 pub fn read_words(input: &mut impl Read, into: &mut [u64]) -> io::Result<usize>
-    ensures { IfOk result (λ n. n ≤ length into.old) }
+    ensures count { IfOk result (λ n. n ≤ length into.old) }
+    ensures failed { OnErr result (length into.new ≡ length into.old) }
 {
     let mut n = 0;
     while n < into.len() {
