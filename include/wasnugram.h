@@ -4,8 +4,8 @@
  * believes its lengths: one that is too large makes it read and write what is not yours. The macros below give every length. (A model
  * file is a buffer of bytes: its entries are its bytes.)
  *
- * Linking. `c/archive` builds target/staticlib/libwasnugram.a, for x86-64 Linux and the System V calling convention: the
- * kit builds for no other processor. The archive needs memcpy and memset and nothing else: no heap, no statics, no libc.
+ * Linking. `c/archive` builds target/staticlib/libwasnugram.a, for x86-64 Linux and the System V calling convention, on every
+ * such processor. The archive needs memcpy and memset and nothing else: no heap, no statics, no libc.
  *
  * Floating point. Numbers are IEEE doubles, rounded to nearest, with subnormal numbers kept and exceptions masked, as a process starts.
  * So never link with -ffast-math or -Ofast: that makes the processor take subnormal numbers for zero (DAZ, FTZ) in all code, ours too,
