@@ -1,6 +1,6 @@
 -- Laws of a list of tests: which part of a list answers, and what is known once none finds fault.
 use Prim.Native.Nat.{ℕ, ◌<◌}
-use mathlib.Core.Path.{◌≡◌, refl, sym, ap, ◌∙◌}
+use mathlib.Core.Path.{◌≡◌, refl, sym, ap, subst, ◌∙◌}
 use mathlib.Core.Bool.{Bool, true, false, cond, not}
 use mathlib.Core.List.{[], ◌∷◌, ◌++◌}
 use native.Mathlib.Omega.{arith}
@@ -10,7 +10,8 @@ use borrow.Author.Tests.{eqb-true, not-true, not-false}
 use Rattle.floats.specs.Float.{minus_infinity}
 use Rattle.answer.specs.declared.Answer.{Answer}
 use Rattle.answer.specs.Answer.{number_of, is_done, done}
-use Rattle.answer.specs.Checks.{Tests, first_of}
+use Rattle.answer.specs.Checks.{Tests, first_of, first_fault}
+use Rattle.std.specs.Prelude.{Result, Ok, Err}
 
 -- every test of the list gives an answer whose number passes the test
 abbrev pub Gives : (ℕ → Bool) → Tests → Type 0
@@ -135,3 +136,96 @@ module _ (b : Bool) (a : Answer) (ts : Tests) (is : b ≡ is_done a) (from : a �
 
   pub passed_by : not b ≡ false → Refuses ts → Clear ts
   passed_by h r = clear ts r (sym (is ∙ ap is_done from) ∙ not-false b h)
+
+-- what the code's check says of the tests: it is passed, or it has the answer of the list
+abbrev pub told : Result Unit Answer → Answer
+told (Ok u) = done minus_infinity
+told (Err a) = a
+
+told_cond : (b : Bool) (a : Answer) (r : Result Unit Answer) → told (cond b (Err a) r) ≡ cond b a (told r)
+told_cond true a r = refl
+told_cond false a r = refl
+
+-- and it tells the answer that the tests give
+pub fault_told : (ts : Tests) → told (first_fault ts) ≡ first_of ts
+unfolding first_of first_fault
+fault_told [] = refl
+fault_told (t ∷ ts) = told_cond t.0 t.1 (first_fault ts) ∙ ap (cond t.0 t.1) (fault_told ts)
+
+-- the code's check of the tests found this fault
+pub found : (ts : Tests) (a : Answer) → first_fault ts ≡ Err a → a ≡ first_of ts
+found ts a h = sym (ap told h) ∙ fault_told ts
+
+ok_is_no_err : (u : Unit) (a : Answer) → ◌≡◌ {A = Result Unit Answer} (Ok u) (Err a) → ⊥
+ok_is_no_err u a h = subst (λ (r : Result Unit Answer). told_kind r) h tt
+  where
+    told_kind : Result Unit Answer → Type 0
+    told_kind (Ok v) = Unit
+    told_kind (Err b) = ⊥
+
+one_clear : (b : Bool) (a : Answer) (rest : Result Unit Answer) (u : Unit) → cond b (Err a) rest ≡ Ok u → (b ≡ false) × (rest ≡ Ok u)
+one_clear true a rest u h = absurd (ok_is_no_err u a (sym h))
+one_clear false a rest u h = (refl, h)
+
+-- the code's check of the tests is passed where none finds fault
+pub passed : (ts : Tests) (u : Unit) → first_fault ts ≡ Ok u → Clear ts
+unfolding first_fault Clear
+passed [] u h = tt
+passed (t ∷ ts) u h =
+    let p = one_clear t.0 t.1 (first_fault ts) u h in
+    (p.0, passed ts u p.1)
+
+-- of two lists of tests, one after the other: the code's check of the first stops the call where it finds fault
+pub fault_stops : (a b : Tests) (x : Answer) → first_fault a ≡ Err x → Err x ≡ first_fault (a ++ b)
+unfolding first_fault
+fault_stops [] b x h = absurd (ok_is_no_err tt x h)
+fault_stops (t ∷ a) b x h = go t.0 h (fault_stops a b x)
+  where
+    go : (c : Bool) → cond c (Err t.1) (first_fault a) ≡ Err x → (first_fault a ≡ Err x → Err x ≡ first_fault (a ++ b))
+        → Err x ≡ cond c (Err t.1) (first_fault (a ++ b))
+    go true k rest = sym k
+    go false k rest = rest k
+
+-- and else the second is made
+pub fault_goes_on : (a b : Tests) (u : Unit) (r : Result Unit Answer) → first_fault a ≡ Ok u → r ≡ first_fault b → r ≡ first_fault (a ++ b)
+unfolding first_fault
+fault_goes_on [] b u r h e = e
+fault_goes_on (t ∷ a) b u r h e =
+    let p = one_clear t.0 t.1 (first_fault a) u h in
+    rw p.0 (fault_goes_on a b u r p.1 e)
+
+-- the first test of a list: the code's check refuses the call with it where it finds fault, and else goes on
+pub faulty : (b : Bool) (a x : Answer) (ts : Tests) → b ≡ true → x ≡ a → Err x ≡ first_fault ((b, a) ∷ ts)
+unfolding first_fault
+faulty b a x ts h e = rw h (ap Err e)
+
+pub faultless : (b : Bool) (a : Answer) (ts : Tests) (r : Result Unit Answer) → b ≡ false → r ≡ first_fault ts → r ≡ first_fault ((b, a) ∷ ts)
+unfolding first_fault
+faultless b a ts r h e = rw h e
+
+-- no test is left
+pub unfaulted : ◌≡◌ {A = Result Unit Answer} (Ok tt) (first_fault [])
+unfolding first_fault
+unfaulted = refl
+
+all_clear : (ts : Tests) → Clear ts → first_fault ts ≡ Ok tt
+unfolding first_fault Clear
+all_clear [] c = refl
+all_clear (t ∷ ts) c = rw c.0 (all_clear ts c.1)
+
+-- where the code's check refuses the call, so does the answer of the list, and where it is passed, the answer is done
+pub refuses_too : (ts : Tests) → Refuses ts → (x : Answer) → first_fault ts ≡ Err x → is_done (first_of ts) ≡ false
+refuses_too ts r x h = go (is_done (first_of ts)) refl
+  where
+    go : (b : Bool) → is_done (first_of ts) ≡ b → b ≡ false
+    go true e = absurd (ok_is_no_err tt x (sym (all_clear ts (clear ts r e)) ∙ h))
+    go false e = refl
+
+pub passes_too : (ts : Tests) (u : Unit) → first_fault ts ≡ Ok u → is_done (first_of ts) ≡ true
+passes_too ts u h = no_fault ts (passed ts u h)
+
+-- tests that find no fault may be left out of the code's check
+pub fault_left_out : (a b c : Tests) → Clear b → first_fault (a ++ (b ++ c)) ≡ first_fault (a ++ c)
+unfolding first_fault
+fault_left_out [] b c h = sym (fault_goes_on b c tt (first_fault c) (all_clear b h) refl)
+fault_left_out (t ∷ a) b c h = ap (cond t.0 (Err t.1)) (fault_left_out a b c h)

@@ -5,12 +5,12 @@
 
 ghost use Rattle.std.specs.Prelude.{◌≡◌};
 ghost use Rattle.answer.specs.Answer as Spec;
-ghost use Rattle.answer.specs.Answer.{number_of, refuse};
+ghost use Rattle.answer.specs.Answer.{number_of, refuse, is_done};
 
 use floats::minus_infinity;
 
 // Why a call was refused, in the order of the numbers (RULES 3.2).
-#[derive(Clone, Copy)]
+#[derive(Clone, Copy, PartialEq, Eq)]
 pub enum Refusal {
     // 0: not refused.
     Done,
@@ -55,27 +55,29 @@ pub struct Answer {
     pub value: f64,
 }
 
-// The number of a refusal (RULES 3.2).
-pub fn number(refusal: Refusal) -> u8
-    ensures { result ≡ number_of refusal }
-{
-    match refusal {
-        Refusal::Done => 0,
-        Refusal::BadStates => 1,
-        Refusal::BadSymbols => 2,
-        Refusal::TooManySamples => 3,
-        Refusal::NoSamples => 4,
-        Refusal::WrongLength => 5,
-        Refusal::OutputTooShort => 6,
-        Refusal::NotGood => 7,
-        Refusal::UnknownSymbol => 8,
-        Refusal::ZeroMass => 9,
-        Refusal::NegativeDifference => 10,
-        Refusal::Overshoot => 11,
-        Refusal::BadLayout => 13,
-        Refusal::BadSum => 14,
-        Refusal::NoRival => 15,
-        Refusal::BadIndex => 16,
+impl Refusal {
+    // The number of a refusal (RULES 3.2).
+    pub fn number(self) -> u8
+        ensures { result ≡ number_of self }
+    {
+        match self {
+            Refusal::Done => 0,
+            Refusal::BadStates => 1,
+            Refusal::BadSymbols => 2,
+            Refusal::TooManySamples => 3,
+            Refusal::NoSamples => 4,
+            Refusal::WrongLength => 5,
+            Refusal::OutputTooShort => 6,
+            Refusal::NotGood => 7,
+            Refusal::UnknownSymbol => 8,
+            Refusal::ZeroMass => 9,
+            Refusal::NegativeDifference => 10,
+            Refusal::Overshoot => 11,
+            Refusal::BadLayout => 13,
+            Refusal::BadSum => 14,
+            Refusal::NoRival => 15,
+            Refusal::BadIndex => 16,
+        }
     }
 }
 
@@ -103,10 +105,14 @@ pub fn refused(refusal: Refusal, table: u8, place: usize) -> Answer
     }
 }
 
-// Whether an answer is no refusal.
-pub fn is_done(answer: Answer) -> bool
-    ensures { result ≡ Spec.is_done answer }
-{
-    let refusal = answer.refusal;
-    number(refusal) == 0
+impl Answer {
+    // Whether it is no refusal.
+    pub fn is_done(self) -> bool
+        ensures { result ≡ is_done self }
+    {
+        self.refusal == Refusal::Done
+    }
 }
+
+// What a check says: nothing, or the answer that refuses the call.
+pub type Checked = Result<(), Answer>;

@@ -1,4 +1,5 @@
 pub mod Tests
+pub mod Blocks
 pub mod Shapes
 pub mod Rooms
 pub mod Slots

@@ -1,14 +1,23 @@
 -- The code's tests, as the definitions of the checks say them, both ways.
 use Prim.Native.Nat.{ℕ, ◌≤◌, ◌<◌}
-use mathlib.Core.Path.{◌≡◌, refl, ap}
-use mathlib.Core.Bool.{Bool, true, false, true≢false, not, ◌&&◌, ◌||◌}
-use mathlib.Core.List.{List}
+use mathlib.Core.Path.{◌≡◌, refl, ap, ◌∙◌}
+use mathlib.Core.Bool.{Bool, true, false, true≢false, not, cond, ◌&&◌, ◌||◌}
+use mathlib.Core.List.{List, [], ◌∷◌}
 use native.Mathlib.Omega.{arith}
 use lib.Dec.{T, eqb, leb, ltb}
 use lib.ListN.{length, get_or}
 use borrow.Author.Tests.{eq-eqb, ne_eqb, eqb-false, lt-ltb, le-ltb, le-leb, lt-leb, ltb-true, ltb-false}
+use Rattle.std.specs.Prelude.{Option, Some, None, Result, Ok}
+use Rattle.std.specs.List.{position}
 use Rattle.lists.specs.Lists.{first_bad, some_bad}
+use Rattle.lists.proofs.Position.{place_is}
 use Rattle.lists.proofs.Scan.{all_pass, pass_all}
+use Rattle.answer.specs.Answer.{refuse}
+use Rattle.answer.specs.Checks.{first_fault}
+use Rattle.answer.specs.declared.Answer.{Answer}
+use Rattle.answer.specs.declared.Refusal.{Refusal}
+use Rattle.answer.proofs.Checks.{faulty, faultless, unfaulted}
+use Rattle.checks.specs.inner.Parts.{refused_at}
 
 pub or_false : (a b : Bool) → (a || b) ≡ false → (a ≡ false) × (b ≡ false)
 or_false true b h = absurd (true≢false h)
@@ -69,3 +78,16 @@ module _ {A : Type 0} (p : A → Bool) (xs : List A) where
       go : (b : Bool) → some_bad p xs ≡ b → leb i (first_bad p xs) ≡ not b
       go true e = let l = ltb-true (first_bad p xs) (length xs) e in lt-leb i (first_bad p xs) (omega arith)
       go false e = let l = ltb-false (first_bad p xs) (length xs) e in le-leb i (first_bad p xs) (omega arith)
+
+-- ---- the first bad place of a list, refused where there is one, is its one test
+module _ {A : Type 0} (r : Refusal) (table : ℕ) (good : A → Bool) (xs : List A) where
+  abbrev answer : Answer
+  answer = refuse r table (first_bad good xs)
+
+  go : (b : Bool) → some_bad good xs ≡ b → refused_at r table (cond b (Some (first_bad good xs)) None) ≡ first_fault ((some_bad good xs, answer) ∷ [])
+  go true e = faulty (some_bad good xs) answer answer [] e refl
+  go false e = faultless (some_bad good xs) answer [] (Ok tt) e unfaulted
+
+  pub one_place : {place : Option ℕ} {told : Result Unit Answer} → place ≡ position (λ (x : A). not (good x)) xs → told ≡ refused_at r table place
+      → told ≡ first_fault ((some_bad good xs, answer) ∷ [])
+  one_place p t = t ∙ ap (refused_at r table) (p ∙ place_is good xs) ∙ go (some_bad good xs) refl

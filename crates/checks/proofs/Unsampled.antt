@@ -1,17 +1,18 @@
 -- The checks of a call without samples: what the code makes of them, and what they let through.
-use mathlib.Core.Path.{◌≡◌, refl, sym, ap, ◌∙◌}
-use mathlib.Core.Bool.{Bool, true, false, not}
+use mathlib.Core.Path.{◌≡◌, refl, sym, ap, subst, ◌∙◌}
+use mathlib.Core.Bool.{true, false}
 use mathlib.Core.List.{List, ◌++◌, append_assoc, append-nil}
 use lib.ListN.{length}
 use Rattle.answer.specs.Answer.{is_done}
-use Rattle.answer.specs.Checks.{Tests, first_of}
+use Rattle.std.specs.Prelude.{Result, Ok, Err}
+use Rattle.answer.specs.Checks.{Tests, first_of, first_fault}
 use Rattle.answer.specs.declared.Answer.{Answer}
 use Rattle.answer.proofs.Checks.{Refuses, refuse_both, Clear, clear, no_fault, clear_both, clear_left, clear_right}
-use Rattle.answer.proofs.Checks.{goes_on, left_out, refused_by, passed_by}
+use Rattle.answer.proofs.Checks.{passed, found, fault_stops, fault_goes_on, fault_left_out, refuses_too, passes_too}
 use Rattle.model.specs.Lent.{Tables}
 use Rattle.model.specs.Accepted.{InRange}
 use Rattle.checks.specs.Rooms.{Room}
-use Rattle.checks.specs.Checks.{shape_tests, count_tests, room_tests, table_rooms, entry_tests, tests_of, unsampled, check_tables}
+use Rattle.checks.specs.Checks.{shape_tests, count_tests, room_tests, table_rooms, entry_tests, tests_of, unsampled, check_tables, tables_fault}
 use Rattle.checks.specs.LetThrough.{TablesLetThrough}
 use Rattle.checks.specs.inner.Parts.{sizes_of}
 use Rattle.checks.proofs.Shapes.{shape_clear, shape_in_range}
@@ -60,7 +61,7 @@ module _ (outputs : List Room) (m : Tables) where
       (clear_both shape _ (shape_clear m.shape a.in_range)
       (clear_both tables _ (clear_tables m a) (clear_both rooms _ (clear_outputs 5 outputs p.roomy) (clear_entries m a))))
 
-  -- ---- the code's answers: the sizes, with no sample, then the outputs, then the entries
+  -- ---- the code's check: the sizes, with no sample, then the outputs, then the entries
   abbrev sizes : Tests
   sizes = sizes_of false m.shape (length m.transition) (length m.emission) (length m.initial) (length m.end) 0
 
@@ -68,32 +69,34 @@ module _ (outputs : List Room) (m : Tables) where
   unfolding count_tests Clear
   no_count = (refl, (refl, tt))
 
-  sized : first_of sizes ≡ first_of (shape ++ tables)
+  sized : first_fault sizes ≡ first_fault (shape ++ tables)
   unfolding sizes_of
-  sized = left_out shape (count_tests false 0) tables no_count
+  sized = fault_left_out shape (count_tests false 0) tables no_count
 
-  module _ (b : Bool) (a : Answer) (is : b ≡ is_done a) where
-    pub sizes_answer : a ≡ first_of sizes → b ≡ false → a ≡ check_tables outputs m
-    sizes_answer from h =
-        refused_by b a (shape ++ tables) is (from ∙ sized) (ap not h) (rooms ++ entries)
-        ∙ ap first_of (append_assoc shape tables (rooms ++ entries) ∙ sym all)
+  rejoined : first_fault ((shape ++ tables) ++ (rooms ++ entries)) ≡ tables_fault outputs m
+  rejoined = ap first_fault (append_assoc shape tables (rooms ++ entries) ∙ sym all)
 
-    pub sizes_clear : a ≡ first_of sizes → b ≡ true → Clear (shape ++ tables)
-    sizes_clear from h =
-        passed_by b a (shape ++ tables) is (from ∙ sized) (ap not h)
-        (refuse_both shape tables (shape_refuses m.shape) (rooms_refuse true 0 (table_rooms m)))
+  pub sizes_stop : {x : Answer} → Err x ≡ first_fault sizes → Err x ≡ tables_fault outputs m
+  sizes_stop {x} e = fault_stops (shape ++ tables) (rooms ++ entries) x (sym (e ∙ sized)) ∙ rejoined
 
-    module _ (passed : Clear (shape ++ tables)) (from : a ≡ first_of rooms) where
-      pub outputs_answer : b ≡ false → a ≡ check_tables outputs m
-      outputs_answer h =
-          goes_on (shape ++ tables) (rooms ++ entries) a (refused_by b a rooms is from (ap not h) entries) passed
-          ∙ ap first_of (append_assoc shape tables (rooms ++ entries) ∙ sym all)
+  pub sizes_in_range : {u : Unit} → Ok u ≡ first_fault sizes → InRange m.shape
+  sizes_in_range {u} e = shape_in_range m.shape (clear_left shape tables (passed (shape ++ tables) u (sym (e ∙ sized))))
 
-      pub entries_answer : b ≡ true → (r : Answer) → r ≡ first_of entries → r ≡ check_tables outputs m
-      entries_answer h r e =
-          goes_on (shape ++ tables) (rooms ++ entries) r
-          (goes_on rooms entries r e (passed_by b a rooms is from (ap not h) (rooms_refuse false 5 outputs))) passed
-          ∙ ap first_of (append_assoc shape tables (rooms ++ entries) ∙ sym all)
+  pub outputs_stop : {u : Unit} {x : Answer} → Ok u ≡ first_fault sizes → Err x ≡ first_fault rooms → Err x ≡ tables_fault outputs m
+  outputs_stop {u} {x} e f =
+      fault_goes_on (shape ++ tables) (rooms ++ entries) u (Err x) (sym (e ∙ sized)) (fault_stops rooms entries x (sym f)) ∙ rejoined
 
-  pub sizes_in_range : Clear (shape ++ tables) → InRange m.shape
-  sizes_in_range c = shape_in_range m.shape (clear_left shape tables c)
+  pub entries_go_on : {u v : Unit} {r : Result Unit Answer} → Ok u ≡ first_fault sizes → Ok v ≡ first_fault rooms → r ≡ first_fault entries
+      → r ≡ tables_fault outputs m
+  entries_go_on {u} {v} {r} e f g =
+      fault_goes_on (shape ++ tables) (rooms ++ entries) u r (sym (e ∙ sized)) (fault_goes_on rooms entries v r (sym f) g) ∙ rejoined
+
+  -- what the whole check says is the answer of the list: a refusal, or done
+  pub refusal_is : {x : Answer} → Err x ≡ tables_fault outputs m → x ≡ check_tables outputs m
+  refusal_is {x} e = found (tests_of m (unsampled outputs)) x (sym e)
+
+  pub is_refused : {x : Answer} → Err x ≡ tables_fault outputs m → is_done (check_tables outputs m) ≡ false
+  is_refused {x} e = refuses_too (tests_of m (unsampled outputs)) (subst Refuses (sym all) refuses) x (sym e)
+
+  pub is_passed : {u : Unit} → Ok u ≡ tables_fault outputs m → is_done (check_tables outputs m) ≡ true
+  is_passed {u} e = passes_too (tests_of m (unsampled outputs)) u (sym e)

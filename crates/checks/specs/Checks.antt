@@ -1,8 +1,8 @@
 -- The checks of a call on a model, as one list of tests in order (RULES 3.3). A call fills the slots that it needs and leaves the others empty.
-use Rattle.std.specs.Prelude.{ℕ, suc, ◌*◌, Bool, true, false, not, ◌&&◌, ◌||◌, List, [], ◌∷◌, ◌++◌, eqb, ltb, length, Float}
+use Rattle.std.specs.Prelude.{ℕ, suc, ◌*◌, Bool, true, false, not, ◌&&◌, ◌||◌, List, [], ◌∷◌, ◌++◌, eqb, ltb, length, Float, Result}
 use Rattle.lists.specs.Lists.{first_bad, some_bad}
 use Rattle.answer.specs.Answer.{refuse}
-use Rattle.answer.specs.Checks.{Tests, first_of}
+use Rattle.answer.specs.Checks.{Tests, first_of, first_fault}
 use Rattle.answer.specs.declared.Answer.{Answer}
 use Rattle.answer.specs.declared.Refusal.TheVariants.{BadStates, BadSymbols, TooManySamples, NoSamples, WrongLength, OutputTooShort, NotGood, UnknownSymbol}
 use Rattle.model.specs.declared.Shape.{Shape}
@@ -98,9 +98,16 @@ passage needs_sample outputs l =
 abbrev pub check : Bool → List Room → Lent → Answer
 check needs_sample outputs l = first_of (tests_of l.tables (passage needs_sample outputs l))
 
+-- the same as the code's check says it
+abbrev pub check_fault : Bool → List Room → Lent → Result Unit Answer
+check_fault needs_sample outputs l = first_fault (tests_of l.tables (passage needs_sample outputs l))
+
 -- a call without samples, whose outputs are numbered from 5
 abbrev pub unsampled : List Room → Slots
 unsampled outputs = record { before = []; counts = []; inputs = []; outputs = room_tests false 5 outputs; samples = []; more = [] }
 
 abbrev pub check_tables : List Room → Tables → Answer
 check_tables outputs m = first_of (tests_of m (unsampled outputs))
+
+abbrev pub tables_fault : List Room → Tables → Result Unit Answer
+tables_fault outputs m = first_fault (tests_of m (unsampled outputs))

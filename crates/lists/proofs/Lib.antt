@@ -1,6 +1,7 @@
 pub mod Places
 pub mod First
 pub mod Scan
+pub mod Position
 pub mod Over
 pub mod Laid
 pub mod Rows

@@ -1,4 +1,4 @@
-// The model's shape, the read of an entry, and which entries are good.
+// The model's shape, what a call on a model is lent, the read of an entry, and which entries are good.
 
 #![tactic(auto)]
 
@@ -8,7 +8,6 @@ ghost use Rattle.model.specs.Good.{good, good_end, good_bits};
 ghost use Rattle.model.specs.inner.Marks.{is_set};
 
 use floats::{is_number, is_plus_zero};
-use std::num::{wrapping_add_u64, wrapping_sub_u64};
 
 // S states, M symbols, and whether the model has an end state.
 #[derive(Clone, Copy)]
@@ -16,6 +15,23 @@ pub struct Shape {
     pub states: usize,
     pub symbols: usize,
     pub ends: bool,
+}
+
+// A model as a call is lent it: its shape and the four tables by rows, numbered 0 to 3.
+#[derive(Clone, Copy)]
+pub struct Tables<'a> {
+    pub shape: Shape,
+    pub transition: &'a [f64],
+    pub emission: &'a [f64],
+    pub initial: &'a [f64],
+    pub end: &'a [f64],
+}
+
+// And number 4, the samples.
+#[derive(Clone, Copy)]
+pub struct Lent<'a> {
+    pub tables: Tables<'a>,
+    pub samples: &'a [u16],
 }
 
 // Entry i of a table. The caller shows that the table has one: every read of a table in a walk is made here.
@@ -30,7 +46,7 @@ pub fn entry(table: &[f64], i: usize) -> f64
 fn mark_of_bits(w: u64) -> u64
     ensures { is_set result ≡ (w == 0 || is_set w) }
 {
-    w | wrapping_sub_u64(w, 1)
+    w | w.wrapping_sub(1)
 }
 
 // The mark of an entry: its top bit is set where the entry is good. It comes of the entry's bits, so that a processor which takes subnormal
@@ -41,7 +57,7 @@ pub fn mark(x: f64) -> u64
     if !is_number(x) {
         return 0;
     }
-    mark_of_bits(f64::to_bits(x))
+    mark_of_bits(x.to_bits())
 }
 
 // Whether a mark has its top bit set.
@@ -57,8 +73,8 @@ pub fn is_set(mark: u64) -> bool
 pub fn mark_of_word(w: u64) -> u64
     ensures { is_set result ≡ good_bits w }
 {
-    let below = wrapping_sub_u64(w, 1);
-    let past = wrapping_add_u64(w, 0x000fffffffffffff);
+    let below = w.wrapping_sub(1);
+    let past = w.wrapping_add(0x000fffffffffffff);
     (w & past) | ((u64::MAX - w) & below)
 }
 

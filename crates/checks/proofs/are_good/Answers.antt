@@ -14,21 +14,20 @@ use Rattle.model.proofs.Marks.{set_and}
 use Rattle.checks.proofs.Tests.{none_below}
 use Rattle.checks.proofs.are_good.Goals as goal
 
-pub loop-i-init : goal.loop-i-init
+pub loop-entry-init : goal.loop-entry-init
 unfolding is_set
-loop-i-init c = (omega arith, omega arith, sym (le-leb 0 (first_bad good c.args.table.now) (omega arith)))
+loop-entry-init c = (omega arith, omega arith, sym (le-leb 0 (first_bad good c.args.table.now) (omega arith)))
 
-pub loop-i-preserved : goal.loop-i-preserved
-loop-i-preserved c = let turn = c.before.before in
-    let inv = turn.loop-i.invariant in
+pub loop-entry-preserved : goal.loop-entry-preserved
+loop-entry-preserved c =
+    let inv = c.loop-entry.invariant in
     let small : c.mark-marks.result < 2 ^ 64 = search rules in
-    let set = set_and turn.loop-i.marks c.mark-marks.result inv.0 small in (
+    let set = set_and c.loop-entry.marks c.mark-marks.result inv.0 small in (
       and_lt 64 _ _ inv.0 small,
       omega arith,
-      set ∙ ap₂ ◌&&◌ inv.2 c.mark-marks.ensures ∙ reaches_more good nan _ _ turn.loop-i-test.true,
+      set ∙ ap₂ ◌&&◌ inv.2 c.mark-marks.ensures ∙ reaches_more good nan _ _ c.loop-entry-test.true,
     )
 
 pub returns : goal.returns
-returns c = let past = c.before in
-    let inv = past.loop-i.invariant in
-    c.is_set.ensures ∙ inv.2 ∙ none_below good _ _ past.loop-i-test.false inv.1
+returns c = let inv = c.loop-entry.invariant in
+    c.is_set.ensures ∙ inv.2 ∙ none_below good _ _ c.loop-entry-test.false inv.1

@@ -1,43 +1,40 @@
 -- `checks::check_entries` meets its contract: the tests in their order, each made where those before it found no fault.
-use mathlib.Core.Path.{ap, ◌∙◌}
-use Rattle.answer.specs.Answer.{refuse}
-use Rattle.answer.specs.declared.Refusal.TheVariants.{NotGood}
-use Rattle.answer.proofs.Checks.{finds, passes, ends}
+use Rattle.std.proofs.Common.{sym}
+use Rattle.std.proofs.lemmas.Result.{err_from_is_err_and}
+use Rattle.answer.proofs.Checks.{fault_stops, fault_goes_on}
 use Rattle.checks.specs.Checks.{entry_tests}
-use Rattle.checks.proofs.Tests.{some_bad_lem, none_bad}
+use Rattle.checks.proofs.Tests.{one_place}
 use Rattle.checks.proofs.check_entries.Goals as goal
 
-pub returns-then-i-transition : goal.returns-then-i-transition
+pub returns-in_err-refuse_at : goal.returns-in_err-refuse_at
 unfolding entry_tests
-returns-then-i-transition c = let is = c.first_bad-i.ensures in
-    finds _ _ _ _ (some_bad_lem _ _ _ is c.if-i-transition.true) (c.refused.ensures ∙ ap (refuse NotGood 0) is)
+returns-in_err-refuse_at c =
+    let p = err_from_is_err_and c.from_residual.result c.from_residual.ensures.1 in
+    let transition = one_place _ _ _ _ c.first_bad.ensures c.in_err-refuse_at.ensures in
+    rw (p.1, p.2) (fault_stops _ _ _ (sym transition))
 
-pub returns-then-i-emission : goal.returns-then-i-emission
+pub returns-in_err-refuse_at-2 : goal.returns-in_err-refuse_at-2
 unfolding entry_tests
-returns-then-i-emission c = let is = c.first_bad-i-2.ensures in
-    passes _ _ _ _ (none_bad _ _ _ c.first_bad-i.ensures c.if-i-transition.false)
-    (finds _ _ _ _ (some_bad_lem _ _ _ is c.if-i-emission.true) (c.refused-then-i-emission.ensures ∙ ap (refuse NotGood 1) is))
+returns-in_err-refuse_at-2 c =
+    let p = err_from_is_err_and c.from_residual-in_err-refuse_at-2.result c.from_residual-in_err-refuse_at-2.ensures.1 in
+    let transition = one_place _ _ _ _ c.first_bad.ensures c.in_ok-refuse_at.ensures in
+    let emission = one_place _ _ _ _ c.first_bad-2.ensures c.in_err-refuse_at-2.ensures in
+    rw (p.1, p.2) (fault_goes_on _ _ _ _ (sym transition) (fault_stops _ _ _ (sym emission)))
 
-pub returns-then-i-initial : goal.returns-then-i-initial
+pub returns-in_err-refuse_at-3 : goal.returns-in_err-refuse_at-3
 unfolding entry_tests
-returns-then-i-initial c = let is = c.first_bad-i-3.ensures in
-    passes _ _ _ _ (none_bad _ _ _ c.first_bad-i.ensures c.if-i-transition.false)
-    (passes _ _ _ _ (none_bad _ _ _ c.first_bad-i-2.ensures c.if-i-emission.false)
-    (finds _ _ _ _ (some_bad_lem _ _ _ is c.if-i-initial.true) (c.refused-then-i-initial.ensures ∙ ap (refuse NotGood 2) is)))
-
-pub returns-then-i-end : goal.returns-then-i-end
-unfolding entry_tests
-returns-then-i-end c = let is = c.first_bad_end-i.ensures in
-    passes _ _ _ _ (none_bad _ _ _ c.first_bad-i.ensures c.if-i-transition.false)
-    (passes _ _ _ _ (none_bad _ _ _ c.first_bad-i-2.ensures c.if-i-emission.false)
-    (passes _ _ _ _ (none_bad _ _ _ c.first_bad-i-3.ensures c.if-i-initial.false)
-    (finds _ _ _ _ (some_bad_lem _ _ _ is c.if-i-end.true) (c.refused-then-i-end.ensures ∙ ap (refuse NotGood 3) is))))
+returns-in_err-refuse_at-3 c =
+    let p = err_from_is_err_and c.from_residual-in_err-refuse_at-3.result c.from_residual-in_err-refuse_at-3.ensures.1 in
+    let transition = one_place _ _ _ _ c.first_bad.ensures c.in_ok-refuse_at.ensures in
+    let emission = one_place _ _ _ _ c.first_bad-2.ensures c.in_ok-refuse_at-2.ensures in
+    let initially = one_place _ _ _ _ c.first_bad-3.ensures c.in_err-refuse_at-3.ensures in
+    rw (p.1, p.2) (fault_goes_on _ _ _ _ (sym transition) (fault_goes_on _ _ _ _ (sym emission) (fault_stops _ _ _ (sym initially))))
 
 pub returns : goal.returns
 unfolding entry_tests
 returns c =
-    passes _ _ _ _ (none_bad _ _ _ c.first_bad-i.ensures c.if-i-transition.false)
-    (passes _ _ _ _ (none_bad _ _ _ c.first_bad-i-2.ensures c.if-i-emission.false)
-    (passes _ _ _ _ (none_bad _ _ _ c.first_bad-i-3.ensures c.if-i-initial.false)
-    (passes _ _ _ _ (none_bad _ _ _ c.first_bad_end-i.ensures c.if-i-end.false)
-    (ends _ _ c.minus_infinity.ensures c.done.ensures))))
+    let transition = one_place _ _ _ _ c.first_bad.ensures c.in_ok-refuse_at.ensures in
+    let emission = one_place _ _ _ _ c.first_bad-2.ensures c.in_ok-refuse_at-2.ensures in
+    let initially = one_place _ _ _ _ c.first_bad-3.ensures c.in_ok-refuse_at-3.ensures in
+    let end = one_place _ _ _ _ c.first_bad_end.ensures c.refuse_at-4.ensures in
+    fault_goes_on _ _ _ _ (sym transition) (fault_goes_on _ _ _ _ (sym emission) (fault_goes_on _ _ _ _ (sym initially) end))

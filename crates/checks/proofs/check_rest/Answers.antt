@@ -1,26 +1,24 @@
 -- `checks::check_rest` meets its contract: its three parts in order, each made where those before it found no fault.
-use mathlib.Core.Path.{ap}
-use mathlib.Core.Bool.{false, not}
-use Rattle.answer.proofs.Checks.{goes_on, refused_by, passed_by}
+use Rattle.std.proofs.Common.{sym}
+use Rattle.std.proofs.lemmas.Result.{err_from_is_err_and}
+use Rattle.answer.proofs.Checks.{fault_stops, fault_goes_on}
 use Rattle.checks.specs.inner.Parts.{rest_tests}
-use Rattle.checks.proofs.Rooms.{rooms_refuse}
-use Rattle.checks.proofs.Slots.{entries_refuse}
 use Rattle.checks.proofs.check_rest.Goals as goal
 
-pub returns-then-not-is_done : goal.returns-then-not-is_done
+pub returns-in_err-check_rooms : goal.returns-in_err-check_rooms
 unfolding rest_tests
-returns-then-not-is_done c = refused_by _ _ _ c.is_done.ensures c.check_rooms-checked.ensures (ap not c.if-not-is_done.true) _
+returns-in_err-check_rooms c =
+    let p = err_from_is_err_and c.from_residual.result c.from_residual.ensures.1 in
+    rw (p.1, p.2) (fault_stops _ _ _ (sym c.in_err-check_rooms.ensures))
 
-pub returns-then-not-is_done-2 : goal.returns-then-not-is_done-2
+pub returns-in_err-check_entries : goal.returns-in_err-check_entries
 unfolding rest_tests
-returns-then-not-is_done-2 c =
-    goes_on _ _ _ (refused_by _ _ _ c.is_done-2.ensures c.check_entries-checked.ensures (ap not c.if-not-is_done-2.true) _)
-    (passed_by _ _ _ c.is_done.ensures c.check_rooms-checked.ensures (ap not c.if-not-is_done.false) (rooms_refuse false 5 _))
+returns-in_err-check_entries c =
+    let p = err_from_is_err_and c.from_residual-in_err-check_entries.result c.from_residual-in_err-check_entries.ensures.1 in
+    rw (p.1, p.2) (fault_goes_on _ _ _ _ (sym c.in_ok-check_rooms.ensures) (fault_stops _ _ _ (sym c.in_err-check_entries.ensures)))
 
 pub returns : goal.returns
 unfolding rest_tests
 returns c =
-    goes_on _ _ _
-    (goes_on _ _ _ c.check_samples.ensures
-    (passed_by _ _ _ c.is_done-2.ensures c.check_entries-checked.ensures (ap not c.if-not-is_done-2.false) (entries_refuse _)))
-    (passed_by _ _ _ c.is_done.ensures c.check_rooms-checked.ensures (ap not c.if-not-is_done.false) (rooms_refuse false 5 _))
+    fault_goes_on _ _ _ _ (sym c.in_ok-check_rooms.ensures)
+    (fault_goes_on _ _ _ _ (sym c.in_ok-check_entries.ensures) c.check_samples.ensures)

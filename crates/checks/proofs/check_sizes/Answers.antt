@@ -1,26 +1,14 @@
 -- `checks::check_sizes` meets its contract: its three parts in order, each made where those before it found no fault.
-use Prim.Native.Nat.{ℕ, ◌≤◌}
-use mathlib.Core.Path.{◌≡◌, ap}
-use mathlib.Core.Bool.{Bool, true, not}
+use Rattle.std.proofs.Common.{sym, ◌≤◌}
+use Rattle.std.proofs.lemmas.Result.{err_from_is_err_and}
 use native.Mathlib.Omega.{arith}
 use native.Mathlib.Nat.{mul-le-mul}
-use Rattle.answer.specs.Answer.{is_done}
-use Rattle.answer.specs.Checks.{first_of}
-use Rattle.answer.specs.declared.Answer.{Answer}
-use Rattle.answer.proofs.Checks.{Clear, goes_on, refused_by, passed_by}
+use Rattle.answer.proofs.Checks.{Clear, passed, fault_stops, fault_goes_on}
 use Rattle.model.specs.declared.Shape.{Shape}
-use Rattle.checks.specs.Checks.{shape_tests, count_tests}
+use Rattle.checks.specs.Checks.{shape_tests}
 use Rattle.checks.specs.inner.Parts.{sizes_of}
 use Rattle.checks.proofs.Tests.{in_range_lem}
-use Rattle.checks.proofs.Slots.{shape_refuses, count_refuses}
 use Rattle.checks.proofs.check_sizes.Goals as goal
-
-shaped : (shape : Shape) (b : Bool) (a : Answer) → b ≡ is_done a → a ≡ first_of (shape_tests shape) → b ≡ true → Clear (shape_tests shape)
-shaped shape b a is from h = passed_by b a _ is from (ap not h) (shape_refuses shape)
-
-counted : (needs_sample : Bool) (samples : ℕ) (b : Bool) (a : Answer) → b ≡ is_done a → a ≡ first_of (count_tests needs_sample samples) → b ≡ true
-    → Clear (count_tests needs_sample samples)
-counted needs_sample samples b a is from h = passed_by b a _ is from (ap not h) (count_refuses needs_sample samples)
 
 few_states_lem : (shape : Shape) → Clear (shape_tests shape) → shape.states ≤ 64
 unfolding shape_tests Clear
@@ -30,27 +18,30 @@ few_symbols_lem : (shape : Shape) → Clear (shape_tests shape) → shape.symbol
 unfolding shape_tests Clear
 few_symbols_lem shape k = (in_range_lem _ _ k.1.0).1
 
-pub returns-then-not-is_done : goal.returns-then-not-is_done
+pub returns-in_err-check_shape : goal.returns-in_err-check_shape
 unfolding sizes_of
-returns-then-not-is_done c = refused_by _ _ _ c.is_done.ensures c.check_shape-checked.ensures (ap not c.if-not-is_done.true) _
+returns-in_err-check_shape c =
+    let p = err_from_is_err_and c.from_residual.result c.from_residual.ensures.1 in
+    rw (p.1, p.2) (fault_stops _ _ _ (sym c.in_err-check_shape.ensures))
 
-pub returns-then-not-is_done-2 : goal.returns-then-not-is_done-2
+pub returns-in_err-check_count : goal.returns-in_err-check_count
 unfolding sizes_of
-returns-then-not-is_done-2 c = goes_on _ _ _ (refused_by _ _ _ c.is_done-2.ensures c.check_count-checked.ensures (ap not c.if-not-is_done-2.true) _)
-    (shaped _ _ _ c.is_done.ensures c.check_shape-checked.ensures c.if-not-is_done.false)
+returns-in_err-check_count c =
+    let p = err_from_is_err_and c.from_residual-in_err-check_count.result c.from_residual-in_err-check_count.ensures.1 in
+    rw (p.1, p.2) (fault_goes_on _ _ _ _ (sym c.in_ok-check_shape.ensures) (fault_stops _ _ _ (sym c.in_err-check_count.ensures)))
 
-pub overflow_mul-needed : goal.overflow_mul-needed
-overflow_mul-needed c =
-    let h = few_states_lem _ (shaped _ _ _ c.is_done.ensures c.check_shape-checked.ensures c.if-not-is_done.false) in
+pub overflow_mul-rooms : goal.overflow_mul-rooms
+overflow_mul-rooms c =
+    let h = few_states_lem _ (passed _ _ (sym c.in_ok-check_shape.ensures)) in
     omega (arith, mul-le-mul h h)
 
-pub overflow_mul-needed-2 : goal.overflow_mul-needed-2
-overflow_mul-needed-2 c =
-    let k = shaped _ _ _ c.is_done.ensures c.check_shape-checked.ensures c.if-not-is_done.false in
+pub overflow_mul-rooms-2 : goal.overflow_mul-rooms-2
+overflow_mul-rooms-2 c =
+    let k = passed _ _ (sym c.in_ok-check_shape.ensures) in
     omega (arith, mul-le-mul (few_states_lem _ k) (few_symbols_lem _ k))
 
 pub returns : goal.returns
 unfolding sizes_of
 returns c =
-    goes_on _ _ _ (goes_on _ _ _ c.check_rooms.ensures (counted _ _ _ _ c.is_done-2.ensures c.check_count-checked.ensures c.if-not-is_done-2.false))
-    (shaped _ _ _ c.is_done.ensures c.check_shape-checked.ensures c.if-not-is_done.false)
+    fault_goes_on _ _ _ _ (sym c.in_ok-check_shape.ensures)
+    (fault_goes_on _ _ _ _ (sym c.in_ok-check_count.ensures) c.check_rooms.ensures)

@@ -1,16 +1,26 @@
 -- The list of checks of a call on one passage in two parts, between which the code works the outputs' needed lengths out.
-use Rattle.std.specs.Prelude.{ℕ, ◌+◌, ◌*◌, ◌≤◌, ◌≡◌, Bool, true, false, List, [], ◌∷◌, ◌++◌, length}
+use Rattle.std.specs.Prelude.{ℕ, ◌*◌, ◌≤◌, ◌≡◌, Bool, true, false, List, [], ◌∷◌, ◌++◌, length, drop, ◌+◌, Float, Option, Some, None, Result, Ok, Err}
+use Rattle.lists.specs.Lists.{first_bad}
+use Rattle.answer.specs.Answer.{refuse}
 use Rattle.answer.specs.Checks.{Tests}
+use Rattle.answer.specs.declared.Answer.{Answer}
+use Rattle.answer.specs.declared.Refusal.{Refusal}
+use Rattle.model.specs.Good.{good}
 use Rattle.model.specs.declared.Shape.{Shape}
 use Rattle.model.specs.Lent as Lent
 use Rattle.model.specs.Lent.{Lent, M}
 use Rattle.checks.specs.Rooms.{Room, room}
 use Rattle.checks.specs.Checks.{shape_tests, count_tests, room_tests, entry_tests, sample_tests}
 
--- as many needed lengths as lent ones, and a number for each
-pub record Numbered (first : ℕ) (needed lent : List ℕ) : Type 0 where
-  pub paired : length needed ≡ length lent
-  pub few : first + length needed ≤ 256
+-- so many whole blocks of 128 entries are within the list, and its first bad entry is that of the entries after them
+pub record GoodBlocks (xs : List Float) (n : ℕ) : Type 0 where
+  pub within : n * 128 ≤ length xs
+  pub rest : first_bad good xs ≡ n * 128 + first_bad good (drop (n * 128) xs)
+
+-- the refusal of a table's first bad place, where there is one
+abbrev pub refused_at : Refusal → ℕ → Option ℕ → Result Unit Answer
+refused_at r table None = Ok tt
+refused_at r table (Some place) = Err (refuse r table place)
 
 -- 1 to 5, by the shape and lengths alone: those of tables 0 to 3, and n of the samples
 unfoldable pub sizes_of : Bool → Shape → ℕ → ℕ → ℕ → ℕ → ℕ → Tests
