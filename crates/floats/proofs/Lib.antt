@@ -1,4 +1,5 @@
 pub mod Tests
+pub mod Literals
 pub mod Finite
 pub mod Keys
 pub mod Order

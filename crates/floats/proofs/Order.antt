@@ -2,53 +2,24 @@
 use mathlib.Core.Path.{◌≡◌, sym, ap, ◌∙◌}
 use mathlib.Core.Logic.{◌⊎◌, inl, inr}
 use Prim.Native.Nat.{ℕ, ◌≤◌, ◌<◌}
-use native.Mathlib.Nat.{le_trans, le_of_lt, le_antisymm, lt_of_lt_of_le, lt_of_le_of_lt}
-use native.Mathlib.Omega.{arith}
-use mathlib.Core.Bool.{Bool, true, false, not, ◌&&◌, ◌||◌}
+use native.Mathlib.Nat.{le_of_lt, le_antisymm}
+use mathlib.Core.Bool.{Bool, true, false, not, ◌&&◌}
 use lib.IntN.{pos}
 use lib.Dec.{T, leb, ltb, leb→le, le→leb, nleb→lt, ltb→lt, lt→ltb, nltb→le}
 use lib.Arith.{le→nltb, lt→nleb}
 use lib.Ieee.{Float, nan, inf, fin, lt, eq, le, is_nan}
 use lib.Ieee.Fits.{and_i, and_l, and_r}
+-- laws of the library: what compares is no NaN, `<` and `==` give `<=`, `==` goes both ways, and `<=` and `<` make chains
+pub use Rattle.std.proofs.lemmas.Float.{le_left, le_right, le_of_lt as lt_le, le_of_eq as eq_le, eq_flip as eq_sym}
+pub use Rattle.std.proofs.lemmas.Float.{le_refl as le_self, le_trans as le_le, lt_of_lt_of_le as lt_le_lt, lt_of_le_of_lt as le_lt_lt}
 use Rattle.floats.proofs.Tests.{same}
-use Rattle.floats.proofs.Keys.{key, lt_key, le_key, le→, →le, lt→, →lt, eq→, →eq, Common, common}
+use Rattle.floats.proofs.Keys.{key, lt_key, le_key, le→, →le, →eq, Common, common}
 
 opposite : (a b : ℕ) → not (ltb a b) ≡ leb b a
 opposite a b = same (not (ltb a b)) (leb b a) (λ h. le→leb b a (nltb→le a b h)) (λ h. le→nltb a b (leb→le b a h))
 
 opposite' : (a b : ℕ) → not (leb a b) ≡ ltb b a
 opposite' a b = same (not (leb a b)) (ltb b a) (λ h. lt→ltb b a (nleb→lt a b h)) (λ h. lt→nleb a b (ltb→lt b a h))
-
--- ---- what compares is no NaN
-pub le_left : (x y : Float) → T (le x y) → T (not (is_nan x))
-unfolding le is_nan
-le_left nan y h = h
-le_left (inf s) y h = tt
-le_left (fin s m e) y h = tt
-
-pub le_right : (x y : Float) → T (le x y) → T (not (is_nan y))
-unfolding le is_nan
-le_right nan nan h = h
-le_right (inf s) nan h = h
-le_right (fin s m e) nan h = h
-le_right x (inf t) h = tt
-le_right x (fin t n d) h = tt
-
-pub lt_le : (x y : Float) → T (lt x y) → T (le x y)
-unfolding le
-lt_le x y h = or_l (lt x y) (eq x y) h
-  where
-    or_l : (a b : Bool) → T a → T (a || b)
-    or_l true b t = tt
-    or_l false b t = absurd t
-
-pub eq_le : (x y : Float) → T (eq x y) → T (le x y)
-unfolding le
-eq_le x y h = or_r (lt x y) (eq x y) h
-  where
-    or_r : (a b : Bool) → T b → T (a || b)
-    or_r true b t = tt
-    or_r false b t = t
 
 -- ---- two floats
 module _ (x y : Float) (n : T (not (is_nan x))) (m : T (not (is_nan y))) where
@@ -81,13 +52,6 @@ module _ (x y : Float) (n : T (not (is_nan x))) (m : T (not (is_nan y))) where
       ∙ opposite' kx ky
       ∙ sym (lt_key c.scale c.bound y x c.y_in c.x_in)
 
-pub eq_sym : (x y : Float) → T (eq x y) → T (eq y x)
-eq_sym x y h =
-    let n = le_left x y (eq_le x y h) in
-    let m = le_right x y (eq_le x y h) in
-    let c = common x y y y n m m m in
-    →eq c.scale c.bound y x c.y_in c.x_in (sym (eq→ c.scale c.bound x y c.x_in c.y_in h))
-
 pub le_antisym : (x y : Float) → T (le x y) → T (le y x) → T (eq x y)
 le_antisym x y h k =
     let n = le_left x y h in
@@ -101,29 +65,6 @@ pub eq_both : (x y : Float) → eq x y ≡ (le x y && le y x)
 eq_both x y =
     same (eq x y) (le x y && le y x) (λ h. and_i (le x y) (le y x) (eq_le x y h) (eq_le y x (eq_sym x y h)))
     (λ h. le_antisym x y (and_l (le x y) (le y x) h) (and_r (le x y) (le y x) h))
-
-pub le_self : (x : Float) → T (not (is_nan x)) → T (le x x)
-le_self x n = let c = common x x x x n n n n in →le c.scale c.bound x x c.x_in c.x_in (omega arith)
-
--- ---- three floats
-pub le_le : (x y z : Float) → T (le x y) → T (le y z) → T (le x z)
-le_le x y z h k =
-    let c = common x y z z (le_left x y h) (le_left y z k) (le_right y z k) (le_right y z k) in
-    →le c.scale c.bound x z c.x_in c.z_in
-    (le_trans (le→ c.scale c.bound x y c.x_in c.y_in h) (le→ c.scale c.bound y z c.y_in c.z_in k))
-
-pub lt_le_lt : (x y z : Float) → T (lt x y) → T (le y z) → T (lt x z)
-lt_le_lt x y z h k =
-    let c = common x y z z (le_left x y (lt_le x y h)) (le_left y z k) (le_right y z k) (le_right y z k) in
-    →lt c.scale c.bound x z c.x_in c.z_in
-    (lt_of_lt_of_le (lt→ c.scale c.bound x y c.x_in c.y_in h) (le→ c.scale c.bound y z c.y_in c.z_in k))
-
-pub le_lt_lt : (x y z : Float) → T (le x y) → T (lt y z) → T (lt x z)
-le_lt_lt x y z h k =
-    let m = le_right y z (lt_le y z k) in
-    let c = common x y z z (le_left x y h) (le_right x y h) m m in
-    →lt c.scale c.bound x z c.x_in c.z_in
-    (lt_of_le_of_lt (le→ c.scale c.bound x y c.x_in c.y_in h) (lt→ c.scale c.bound y z c.y_in c.z_in k))
 
 -- ---- the ends, and zero
 pub bottom_le : (x : Float) → T (not (is_nan x)) → T (le (inf true) x)

@@ -1,6 +1,6 @@
 -- Tests on whole numbers, as facts: what the laws of floats take apart.
 use mathlib.Core.Path.{◌≡◌, refl, sym, ap, ◌∙◌, subst}
-use mathlib.Core.Bool.{Bool, true, false, true≢false, not, ◌&&◌, ◌||◌}
+use mathlib.Core.Bool.{Bool, true, false, not, ◌&&◌, ◌||◌}
 use Prim.Native.Nat.{ℕ, ◌≤◌, ◌<◌}
 use native.Mathlib.Omega.{arith}
 use lib.Dec.{T, leb, ltb, eqb, leb→le, nltb→le, le→leb, ltb→lt, lt→ltb, eqb→eq}
@@ -18,10 +18,6 @@ to_eqb a b p = eq→eqb p
 
 -- for `omega`: tests as the facts that they say
 pub ruleset tests = (arith, ltb→lt, lt→ltb, leb→le, le→leb, eqb→eq, to_eqb)
-
-pub or_false : (a b : Bool) → (a || b) ≡ false → (a ≡ false) × (b ≡ false)
-or_false true b h = absurd (true≢false h)
-or_false false b h = (refl, h)
 
 pub lt_or_eq : (a b : ℕ) → (ltb a b || eqb a b) ≡ leb a b
 lt_or_eq a b = go (ltb a b) (ltb→lt a b) (nltb→le a b)

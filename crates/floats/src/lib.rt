@@ -6,35 +6,39 @@ ghost use Rattle.std.specs.Prelude.{◌≡◌};
 ghost use Rattle.floats.specs.Float as Float;
 ghost use Rattle.floats.specs.Float.{minus_infinity, is_number, is_minus_infinity, is_plus_infinity, is_infinite, is_plus_zero};
 
-// Minus infinity. A function, since no constant of the language can hold an infinity.
+// Minus infinity.
+#[tactic(auto, using(crate::proofs::Literals::minus_infinity_bits))]
 pub fn minus_infinity() -> f64
     ensures { result ≡ minus_infinity }
 {
-    -1.0 / 0.0
+    f64::NEG_INFINITY
 }
 
 // Whether x is not NaN.
 pub fn is_number(x: f64) -> bool
     ensures { result ≡ is_number x }
 {
-    x == x
+    !x.is_nan()
 }
 
 // Whether x is minus infinity.
+#[tactic(auto, using(crate::proofs::Literals::minus_infinity_bits))]
 pub fn is_minus_infinity(x: f64) -> bool
     ensures { result ≡ is_minus_infinity x }
 {
-    x == minus_infinity()
+    x == f64::NEG_INFINITY
 }
 
 // Whether x is plus infinity.
+#[tactic(auto, using(crate::proofs::Literals::plus_infinity_bits))]
 pub fn is_plus_infinity(x: f64) -> bool
     ensures { result ≡ is_plus_infinity x }
 {
-    x == 1.0 / 0.0
+    x == f64::INFINITY
 }
 
 // Whether x is either infinity.
+#[tactic(auto, unfolding(crate::specs::Float::is_infinite))]
 pub fn is_infinite(x: f64) -> bool
     ensures { result ≡ is_infinite x }
 {
@@ -42,16 +46,15 @@ pub fn is_infinite(x: f64) -> bool
 }
 
 // Whether x is +0.0, and not -0.0.
+#[tactic(auto, unfolding(crate::specs::Float::is_plus_zero))]
 pub fn is_plus_zero(x: f64) -> bool
     ensures { result ≡ is_plus_zero x }
 {
-    if !is_number(x) {
-        return false;
-    }
-    f64::to_bits(x) == 0
+    is_number(x) && x.to_bits() == 0
 }
 
-// |x|
+// |x|, but -0.0 stays as it is, which x.abs() would make 0.0.
+#[tactic(auto, using(crate::proofs::Literals::nought_bits), unfolding(crate::specs::Float::magnitude))]
 pub fn magnitude(x: f64) -> f64
     ensures { result ≡ Float.magnitude x }
 {
