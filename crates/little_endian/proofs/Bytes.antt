@@ -1,11 +1,8 @@
 -- Laws of numbers as bytes, and of words.
-use Rattle.std.proofs.Common.{◌≡◌, ℕ, zero, suc, ◌+◌, ◌-◌, ◌*◌, ◌/◌, ◌%◌, ◌^◌, ◌<◌, ◌≤◌, List, [], ◌∷◌, ◌++◌, length, get_or, take, drop, sym, refl, ap, ◌∙◌, ap₂, append_assoc, append-nil, le_of_suc-le-suc, not-suc-le-zero, mod-lt, mod-eq_of_lt, mul_assoc, mul_comm, div-lt_iff_lt-mul, pow-suc, zero-add, div-one, arith, length-append, length-drop, take-append-drop, length-take, length-take-le, drop-cons, take_at, get_or-append-add, drop_at, shr-shr}
+use Rattle.std.proofs.Common.{◌≡◌, ℕ, zero, suc, ◌+◌, ◌-◌, ◌*◌, ◌/◌, ◌%◌, ◌^◌, ◌<◌, ◌≤◌, List, [], ◌∷◌, ◌++◌, length, get_or, take, drop, sym, refl, ap, ◌∙◌, append_assoc, append-nil, le_of_suc-le-suc, not-suc-le-zero, mod-lt, mod-eq_of_lt, div-lt_iff_lt-mul, pow-suc, zero-add, div-one, arith, length-append, length-drop, take-append-drop, length-take, length-take-le, take_at, get_or-append-add, drop_at, shr-shr}
 use native.Mathlib.Nat.{pow-le-pow_right, min-le_left, pow-zero, mod-add-div, add-mul-mod_self_left}
 use native.Mathlib.Nat.{add-mul-div_left, div-eq_of_lt}
 use lib.ListN.{get_or-append}
-use Rattle.lists.specs.Lists.{tab, over, part}
-use Rattle.lists.proofs.Over.{tab_same, tab_own, length_part}
-use Rattle.lists.proofs.Parts.{part_add}
 use Rattle.little_endian.specs.Bytes.{little, value, bytes, words, total, Below}
 
 pub length_little : (n x : ℕ) → length (little n x) ≡ n
@@ -42,32 +39,6 @@ little_below (suc n) x = (mod-lt x (omega arith), little_below n (x / 256))
 -- two numbers of the same bytes
 pub little_one : (n x y : ℕ) → x < 256 ^ n → y < 256 ^ n → little n x ≡ little n y → x ≡ y
 little_one n x y h k e = sym (value_little n x h) ∙ ap value e ∙ value_little n y k
-
--- bytes one after the other: the later ones count 256 times as much for each earlier one
-value_both : (a b : List ℕ) → value (a ++ b) ≡ value a + 256 ^ length a * value b
-unfolding value
-value_both [] b = omega (arith, pow-zero 256)
-value_both (x ∷ a) b =
-    let h = value_both a b in
-    let m : 256 * (256 ^ length a * value b) ≡ 256 ^ length a * 256 * value b = rw (
-      ← mul_assoc 256 (256 ^ length a) (value b),
-      mul_comm 256
-          (256 ^ length a),
-    ) in
-    rw (h, pow-suc 256 (length a), ← m) (omega arith)
-
--- the number that n + m bytes give, by the first n and the last m
-pub value_add : (bs : List ℕ) (at n m low high base : ℕ) → base ≡ 256 ^ n → at + n ≤ length bs → low ≡ value (part at n bs)
-    → high ≡ value (part (at + n) m bs) → low + high * base ≡ value (part at (n + m) bs)
-value_add bs at n m low high base e h l k =
-    let swap : low + high * base ≡ low + 256 ^ n * high = ap (λ (q : ℕ). low + q) (mul_comm high base ∙ ap (λ (q : ℕ). q * high) e) in
-    swap ∙ ap₂ (λ (x y : ℕ). x + 256 ^ n * y) l k
-    ∙ ap (λ (j : ℕ). value (part at n bs) + 256 ^ j * value (part (at + n) m bs)) (sym (length_part at n bs h))
-    ∙ sym (value_both (part at n bs) (part (at + n) m bs)) ∙ ap value (sym (part_add at n m bs))
-
-pub value_alone : (bs : List ℕ) (i : ℕ) → i < length bs → get_or bs i 0 ≡ value (part i 1 bs)
-unfolding value
-value_alone bs i h = rw (drop-cons bs i 0 h) (omega arith)
 
 -- ---- below a bound
 pub below_take : (m n : ℕ) (l : List ℕ) → Below m l → Below m (take n l)
@@ -164,18 +135,6 @@ module _ (n x : ℕ) (rest : List ℕ) where
   past_front j h =
       let e : length (little n x) + (j - n) ≡ j = rw length_little (omega arith) in
       sym (sym (ap (λ (k : ℕ). get_or (little n x ++ rest) k 0) e) ∙ get_or-append-add (little n x) rest (j - n) 0)
-
--- byte k of x
-abbrev pub byte_at : ℕ → ℕ → ℕ
-byte_at x k = x / 2 ^ (8 * k) % 256
-
-pub little_tab : (n x : ℕ) → tab n (byte_at x) ≡ little n x
-little_tab n x =
-    tab_same n (byte_at x) (λ (k : ℕ). get_or (little n x) k 0) (λ (k : ℕ) h. sym (little_at n x k h))
-    ∙ ap (λ (m : ℕ). tab m (λ (k : ℕ). get_or (little n x) k 0)) (sym (length_little n x)) ∙ tab_own (little n x) 0
-
-pub little_laid : (at n x : ℕ) (l cur : List ℕ) → cur ≡ over at (tab n (byte_at x)) l → cur ≡ over at (little n x) l
-little_laid at n x l cur e = e ∙ ap (λ (p : List ℕ). over at p l) (little_tab n x)
 
 -- ---- words one after the other
 pub bytes_both : (v w : List ℕ) → bytes (v ++ w) ≡ bytes v ++ bytes w

@@ -6,43 +6,21 @@ ghost use Rattle.std.specs.Prelude.{◌≡◌, ◌+◌, ◌*◌, ◌/◌, ◌%�
 ghost use Rattle.lists.specs.Lists.{part, over};
 ghost use Rattle.little_endian.specs.Bytes.{value, words, sum, little};
 
-// A byte as a word.
-fn wide(x: u8) -> u64
-    ensures { (result ≡ x) × (result < 256) }
-{
-    x as u64
-}
-
-// Byte i.
-fn byte_at(bytes: &[u8], i: usize) -> u64
-    requires { i < length bytes.now }
-    ensures { (result ≡ value (part i 1 bytes.now)) × (result < 256) }
-{
-    wide(bytes[i])
-}
-
 // The number that two bytes from byte `at` on give.
 pub fn two_bytes_at(bytes: &[u8], at: usize) -> u64
     requires { at + 2 ≤ length bytes.now }
     ensures { (result ≡ value (part at 2 bytes.now)) × (result < 2 ^ 16) }
 {
-    byte_at(bytes, at) + byte_at(bytes, at + 1) * 0x100
+    u64::from(u16::from_le_bytes([bytes[at], bytes[at + 1]]))
 }
 
-// The number that four bytes from byte `at` on give.
-fn four_bytes_at(bytes: &[u8], at: usize) -> u64
-    requires { at + 4 ≤ length bytes.now }
-    ensures { (result ≡ value (part at 4 bytes.now)) × (result < 2 ^ 32) }
-{
-    two_bytes_at(bytes, at) + two_bytes_at(bytes, at + 2) * 0x10000
-}
-
-// The word of the 8 bytes from byte `at` on. It is put together without a loop, so that the compiler makes one read of it.
+// The word of the 8 bytes from byte `at` on.
 pub fn word_at(bytes: &[u8], at: usize) -> u64
     requires { at + 8 ≤ length bytes.now }
     ensures { result ≡ value (part at 8 bytes.now) }
 {
-    four_bytes_at(bytes, at) + four_bytes_at(bytes, at + 4) * 0x100000000
+    let (words, _) = bytes[at..at + 8].as_chunks::<8>();
+    u64::from_le_bytes(words[0])
 }
 
 // The sum of n words from byte `at` on, wrapping at 2^64.
@@ -50,13 +28,11 @@ pub fn sum_of(bytes: &[u8], at: usize, n: usize) -> u64
     requires { at + 8 * n ≤ length bytes.now }
     ensures { result ≡ sum (words n (part at (8 * n) bytes.now)) }
 {
-    let mut total: u64 = 0;
-    let mut i = 0;
-    while i < n {
-        total = std::num::wrapping_add_u64(total, word_at(bytes, at + 8 * i));
-        i += 1;
-    }
-    total
+    let (words, _) = bytes[at..at + 8 * n].as_chunks::<8>();
+    words
+        .iter()
+        .map(|word| u64::from_le_bytes(*word))
+        .fold(0u64, |total, word| total.wrapping_add(word))
 }
 
 // Byte j of a number.
@@ -72,9 +48,5 @@ pub fn put(bytes: &mut [u8], at: usize, width: usize, x: u64)
     requires { (at + width ≤ length bytes.old) × (width ≤ 8) }
     ensures { bytes.new ≡ over at (little width x) bytes.old }
 {
-    let mut i = 0;
-    while i < width {
-        bytes[at + i] = byte_of(x, i);
-        i += 1;
-    }
+    bytes[at..at + width].copy_from_slice(&x.to_le_bytes()[..width]);
 }

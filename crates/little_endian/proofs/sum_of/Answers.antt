@@ -1,13 +1,12 @@
-use Rattle.std.proofs.Common.{arith}
-use Rattle.little_endian.proofs.Summing.{summed_none, summed_more, summed_all}
+-- `little_endian::sum_of` meets its contract: each part is read as a word, and `fold` adds word after word.
+use Rattle.std.proofs.Common.{rules, ◌≡◌, ◌∙◌, map, w64}
+use Rattle.std.specs.List.{fold}
+use Rattle.std.specs.Int.{from_le_bytes}
+use Rattle.std.proofs.iter.runs.Made.{chains}
+use Rattle.little_endian.proofs.Library.{with_word, sum_words}
 use Rattle.little_endian.proofs.sum_of.Goals as goal
 
-pub loop-i-init : goal.loop-i-init
-loop-i-init c = (omega arith, summed_none _ _)
-
-pub loop-i-preserved : goal.loop-i-preserved
-loop-i-preserved c = let turn = c.before.before in
-    (omega arith, summed_more _ _ _ _ _ _ turn.loop-i.invariant.1 c.word_at.ensures c.wrapping_add_u64-total.ensures.value)
-
 pub returns : goal.returns
-returns c = summed_all _ _ _ _ _ c.loop-i.invariant.1 (omega (arith, c.loop-i.invariant.0, c.loop-i-test.false))
+returns c =
+    let e : c.fold.result ≡ fold with_word 0 (map (from_le_bytes w64) c.as_chunks.result.0.now) = search (rules, chains) in
+    e ∙ sum_words _ _ _ _ c.requires c.as_chunks.ensures.front

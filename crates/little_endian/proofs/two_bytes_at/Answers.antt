@@ -1,10 +1,7 @@
--- `little_endian::two_bytes_at` meets its contract: its halves are put together by `value_add`.
-use Rattle.std.proofs.Common.{refl, arith, rules}
-use Rattle.little_endian.proofs.Bytes.{value_add}
+-- `little_endian::two_bytes_at` meets its contract.
+use Rattle.std.proofs.Common.{arith, ◌∙◌}
+use Rattle.little_endian.proofs.Library.{two_value}
 use Rattle.little_endian.proofs.two_bytes_at.Goals as goal
 
 pub returns : goal.returns
-returns c = let a = c.args in
-    let low = c.byte_at.ensures in
-    let high = c.byte_at-2.ensures in
-    (value_add a.bytes.now a.at 1 1 _ _ 256 refl (search rules) low.0 high.0, omega (arith, low.1, high.1))
+returns c = (c.from.ensures ∙ c.from_le_bytes.ensures ∙ two_value _ _ c.requires, omega arith)
