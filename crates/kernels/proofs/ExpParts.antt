@@ -12,7 +12,7 @@ use lib.Ieee.Fits.{down_pos, kept-lt}
 use lib.Ieee.Digits.{size-le}
 use Rattle.floats.specs.Float.{nought}
 use Rattle.floats.specs.inner.Sign.{nonneg}
-use Rattle.floats.proofs.Tests.{or_false}
+use Rattle.std.proofs.lemmas.Bool.{or_parts}
 use Rattle.floats.proofs.Fraction.{times_sign}
 use Rattle.kernels.specs.Exp.{depth, log2e, exp_arg, exp_end}
 
@@ -51,7 +51,7 @@ arg_nonneg d =
 pub under_end : (m : ℕ) (e : ℤ) → le exp_end (fin false m e) ≡ false → m * up e ≤ 62 * down e
 unfolding le lt
 under_end m e h =
-    let below = (or_false (ltb (62 * down e) (m * up e * 1)) (eq exp_end (fin false m e)) h).0 in
+    let below = (or_parts (ltb (62 * down e) (m * up e * 1)) (eq exp_end (fin false m e)) h).0 in
     let k : m * up e * 1 ≤ 62 * down e = ltb-false (62 * down e) (m * up e * 1) below in
     omega (arith, mul-one (m * up e))
 
