@@ -14,15 +14,14 @@ use floats::minus_infinity;
 use model::entry;
 
 // Lays out the emissions of symbol x, state by state.
+#[tactic(auto, using(lists::proofs::Over::over_tab_none, lists::proofs::Over::over_tab_more))]
 fn lay_symbol(emission: &[f64], states: usize, symbols: usize, x: usize, emissions: &mut [f64])
     requires { Emits states symbols emission.now x emissions.old }
     ensures { emissions.new ≡ over 0
         (tab states (λ j. at emission.now (j * symbols + x))) emissions.old }
 {
-    let mut j = 0;
-    while j < states {
+    for j in 0..states {
         emissions[j] = entry(emission, j * symbols + x);
-        j += 1;
     }
 }
 
@@ -49,16 +48,13 @@ fn bar(states: usize, index: usize, state: usize, t: usize, emissions: &mut [f64
     ensures { emissions.new ≡ cond (eqb t index && ltb state states)
         (set emissions.old state minus_infinity) emissions.old }
 {
-    if t != index {
-        return;
+    if t == index && state < states {
+        emissions[state] = minus_infinity();
     }
-    if states <= state {
-        return;
-    }
-    emissions[state] = minus_infinity();
 }
 
 // The same, of a model in which `state` is barred at the sample `index`. With an index past the last sample nothing is barred.
+#[tactic(auto, using(crate::proofs::Barring::bar_laid))]
 pub fn lay_barred(
     emission: &[f64],
     states: usize,
@@ -80,13 +76,12 @@ pub fn lay_barred(
 
 // The first row of the values: initial + emission, where these are the emissions of the first sample. The caller shows that there is one
 // for each state, and room for the row.
+#[tactic(auto, using(lists::proofs::Over::over_tab_none, lists::proofs::Over::over_tab_more))]
 pub fn first_row(initial: &[f64], emissions: &[f64], values: &mut [f64])
     requires { Beginning initial.now emissions.now values.old }
     ensures { values.new ≡ over 0 (first_row initial.now emissions.now) values.old }
 {
-    let mut j = 0;
-    while j < initial.len() {
+    for j in 0..initial.len() {
         values[j] = entry(initial, j) + entry(emissions, j);
-        j += 1;
     }
 }
