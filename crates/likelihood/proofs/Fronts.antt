@@ -1,13 +1,7 @@
--- What n stores leave at the front of an array: as many places, and terms whose sum, before its logarithm, is theirs.
-use Prim.Native.Nat.{ℕ, ◌<◌}
-use mathlib.Core.Path.{◌≡◌, ap, ◌∙◌}
-use mathlib.Core.List.{List}
-use lib.ListN.{length, take}
-use lib.Ieee.{Float}
+-- What n terms at the front of an array sum up to, before the logarithm is taken.
+use Rattle.std.proofs.Common.{◌≡◌, ℕ, ◌<◌, ◌≤◌, List, length, take, Float, ◌∙◌, length-take-le}
+use lib.Seq.{get_or-take}
 use Rattle.floats.specs.Float.{at, minus_infinity}
-use Rattle.lists.specs.Lists.{tab, over}
-use Rattle.lists.proofs.Over.{length_tab, get_or_tab}
-use Rattle.lists.proofs.Laid.{front}
 use Rattle.sums.specs.inner.Open.{opened}
 use Rattle.sums.proofs.Loops.{peak_same, exp_sum_same}
 
@@ -16,9 +10,7 @@ pub opened_same : (n : ℕ) (f g : ℕ → Float) → ((k : ℕ) → k < n → f
 unfolding opened
 opened_same n f g h = rw (peak_same n f g h, exp_sum_same _ n f g h)
 
-module _ (n : ℕ) (f : ℕ → Float) (l cur : List Float) (e : cur ≡ over 0 (tab n f) l) where
-  pub front_long : length (take n cur) ≡ n
-  front_long = ap length (front n f l cur e) ∙ length_tab n f
-
-  pub opened_front : opened (length (take n cur)) (at (take n cur)) ≡ opened n f
-  opened_front = rw (front_long, front n f l cur e) (opened_same n _ f (λ k h. get_or_tab n f k minus_infinity h))
+pub opened_front : (n : ℕ) (f : ℕ → Float) (terms : List Float) → n ≤ length terms → ((k : ℕ) → k < n → at terms k ≡ f k)
+    → opened (length (take n terms)) (at (take n terms)) ≡ opened n f
+opened_front n f terms room h =
+    rw (length-take-le n terms room) (opened_same n _ f (λ k l. get_or-take n terms k minus_infinity l ∙ h k l))

@@ -1,5 +1,4 @@
 pub mod Fronts
-pub mod Strides
 pub mod Steps
 pub mod Last
 pub mod Outcome

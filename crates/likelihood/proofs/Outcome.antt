@@ -1,12 +1,12 @@
--- What the checks let through can be walked, and a call ends as it promises in each of three ways: refused, without a sample, walked.
+-- What the checks let through can be walked, and a call without a sample ends as it promises.
 use Prim.Native.Nat.{◌<◌}
-use mathlib.Core.Path.{◌≡◌, refl, sym, ap, ◌∙◌}
+use mathlib.Core.Path.{◌≡◌, refl, sym}
 use mathlib.Core.Bool.{Bool, true, false, not}
 use mathlib.Core.List.{List}
 use lib.ListN.{length}
 use lib.Ieee.{Float}
 use Rattle.floats.specs.Float.{minus_infinity}
-use Rattle.lists.specs.Lists.{flat, over}
+use Rattle.lists.specs.Lists.{flat}
 use Rattle.lists.proofs.Over.{over_none}
 use Rattle.answer.specs.Answer.{done, is_done}
 use Rattle.answer.specs.declared.Answer.{Answer}
@@ -14,7 +14,7 @@ use Rattle.model.specs.Lent.{Lent, S, M, T}
 use Rattle.model.specs.Model.{Model, model_of}
 use Rattle.checks.proofs.Done.{let_through}
 use Rattle.likelihood.specs.Walk.{forward_value, backward_value}
-use Rattle.likelihood.specs.Call.{checked, Walked}
+use Rattle.likelihood.specs.Call.{checked}
 use Rattle.emission.specs.inner.Row.{Symbols}
 use Rattle.likelihood.specs.inner.Walk.{Walkable, value_of}
 use Rattle.likelihood.specs.inner.Call.{Answered}
@@ -35,15 +35,6 @@ module _ (needs_sample : Bool) (l : Lent) (o : List Float) (ok : is_done (checke
         },
         record { emission_length = a.emission_length; known = h.accepted.samples.known },
       )
-
-module _ (needs_sample : Bool) (v : Float) (rows : List Float) (l : Lent) (o : List Float) (r : Answer) where
-  pub is_refused : is_done (checked needs_sample l (length o)) ≡ false
-      → r ≡ checked needs_sample l (length o) → Walked needs_sample v rows l o r o
-  is_refused not-ok e = record { answer = rw not-ok e; values = rw not-ok }
-
-  pub is_walked : is_done (checked needs_sample l (length o)) ≡ true → (w : Float) (e : List Float)
-      → w ≡ v → e ≡ over 0 rows o → r ≡ done w → Walked needs_sample v rows l o r e
-  is_walked ok w e h d a = record { answer = rw ok (a ∙ ap done h); values = rw ok d }
 
 -- no samples have no rows, and are worth nothing
 no_samples : (back : Bool) (m : Model) → value_of back m 0 ≡ minus_infinity

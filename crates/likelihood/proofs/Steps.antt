@@ -1,37 +1,23 @@
 -- The rows in memory follow the recurrences, over any model and n samples: the first row, each row after it, and all of them at the end.
 use Prim.Native.Nat.{ℕ, suc, ◌+◌, ◌*◌, ◌<◌, ◌≤◌}
 use native.Mathlib.Numerals.{add-one}
-use native.Mathlib.Nat.{suc-mul}
 use native.Mathlib.Omega.{arith}
 use mathlib.Core.Path.{◌≡◌, refl, sym, ap, ap₂, ◌∙◌}
 use mathlib.Core.Bool.{Bool, true, false}
 use mathlib.Core.List.{List}
-use lib.ListN.{length, take, drop}
+use lib.ListN.{length}
 use lib.Ieee.{Float}
 use Rattle.floats.specs.Float.{◌⊕◌, at, minus_infinity}
 use Rattle.lists.specs.Lists.{tab, flat, table, over}
-use Rattle.lists.proofs.Places.{next_at}
-use Rattle.lists.proofs.Over.{length_tab, get_or_tab, tab_same, tab_own, over_again}
-use Rattle.lists.proofs.Rows.{row_back, rows_settled}
-use Rattle.lists.proofs.Whole.{Whole, whole_more, whole_done}
+use Rattle.lists.proofs.Over.{length_tab, get_or_tab, tab_same, tab_own}
+use Rattle.lists.proofs.Rows.{row_back}
+use Rattle.lists.proofs.Whole.{Whole, whole_more}
 use Rattle.sums.proofs.Loops.{ln_sum_same}
-use Rattle.model.specs.Model.{Model, transition_of, sample_at}
+use Rattle.model.specs.Model.{Model, transition_of}
 use Rattle.emission.proofs.FirstRow.{first_row_is}
 use Rattle.likelihood.specs.Walk.{alpha, beta}
 use Rattle.likelihood.specs.inner.Row.{row_zero, Begun, cell_term, cell_of, Stepped}
-use Rattle.emission.specs.inner.Row.{Emits, Symbols}
-use Rattle.likelihood.specs.inner.Walk.{row_of, time_of, Filled}
-
--- the sample of a row that is to come is one of the n
-pub time_within : (back : Bool) (n i : ℕ) → i + 1 < n → time_of back n i < n
-time_within false n i h = h
-time_within true n i h = omega arith
-
--- the emissions of one of the samples can be laid out
-pub emits : (S M : ℕ) (emission emissions : List Float) (samples : List ℕ) (t : ℕ) → Symbols S M emission samples → t < length samples
-    → S ≤ length emissions → (t < length samples) × Emits S M emission (sample_at samples t) emissions
-emits S M emission emissions samples t s h room =
-    (h, record { emission_length = s.emission_length; symbol = s.known t h; emissions_room = room })
+use Rattle.likelihood.specs.inner.Walk.{row_of, time_of}
 
 module _ (m : Model) (n : ℕ) where
   -- row i as it lies in memory
@@ -67,9 +53,9 @@ module _ (m : Model) (n : ℕ) where
     abbrev pub First : List Float → List Float → Type 0
     First o cur = cur ≡ over 0 (table 1 m.states (row_of back m n)) o
 
-    -- i rows stand over o, and the next starts at base
-    abbrev pub Rows : List Float → List Float → ℕ → ℕ → Type 0
-    Rows o cur i base = Whole n m.states (row_of back m n) o cur i base
+    -- i rows stand over o
+    abbrev pub Rows : List Float → List Float → ℕ → Type 0
+    Rows o cur i = Whole n m.states (row_of back m n) o cur i (i * m.states)
 
     row_long : (i : ℕ) → length (row_at back i) ≡ m.states
     row_long i = length_tab m.states (row_of back m n i)
@@ -82,22 +68,16 @@ module _ (m : Model) (n : ℕ) where
         d ∙ ap (λ (p : List Float). over 0 p o) (first_is back initial end emissions i e a b h)
 
     -- the loop starts with the first row
-    pub rows_begun : (o cur : List Float) → 0 < n → First o cur → Rows cur cur (0 + 1) (0 + m.states)
-    rows_begun o cur h e =
-        record { within = h; start = next_at 0 m.states 0 (omega arith); kept = refl; is = over_again _ o cur e }
+    pub rows_begun : (o cur : List Float) → 0 < n → length cur ≡ length o → First o cur → Rows o cur (0 + 1)
+    rows_begun o cur some kept e = record { within = some; start = refl; kept = kept; is = e }
 
-    -- row i starts at p, and the next row is laid after it
-    pub next_laid : (i p : ℕ) (transition emissions o cur new : List Float) → transition_of m.states transition ≡ m.transition
-        → emissions ≡ tab m.states (m.emission (time_of back n i)) → n * m.states ≤ length o → Rows o cur (i + 1) (p + m.states)
-        → i + 1 < n → Stepped back m.states p transition emissions cur new → Rows o new (i + 1 + 1) (p + m.states + m.states)
-    next_laid i p transition emissions o cur new a h room inv more d =
-        let place : p ≡ i * m.states = omega (arith, inv.start, suc-mul i m.states, add-one i) in
-        let row : take m.states (drop p cur) ≡ row_at back i = row_back i m.states p (row_at back) o cur row_long inv.is place in
+    -- row i + 1 is laid after row i
+    pub next_laid : (i : ℕ) (transition emissions o cur new : List Float) → transition_of m.states transition ≡ m.transition
+        → emissions ≡ tab m.states (m.emission (time_of back n i)) → n * m.states ≤ length o → Rows o cur (i + 1)
+        → i + 1 < n → Stepped back m.states (i * m.states) transition emissions cur new → Rows o new (i + 1 + 1)
+    next_laid i transition emissions o cur new a h room inv more d =
+        let row = row_back i m.states (i * m.states) (row_at back) o cur row_long inv.is refl in
         let cells = tab_same m.states _ _ (next_is back i transition emissions _ a h row) in
-        whole_more n m.states _ o room cur new _ (i + 1) (p + m.states) inv more cells d
-
-    -- all rows stand, over a list that had the first
-    pub all_laid : (i base : ℕ) (o mid cur : List Float) → First o mid → Rows mid cur (i + 1) base → 0 < n → n ≤ i + 1
-        → Filled back m n o cur
-    all_laid i base o mid cur d inv some last =
-        rows_settled n m.states (row_at back) o mid cur row_long some d (whole_done n m.states _ mid cur (i + 1) base inv last)
+        let place : i * m.states + m.states ≡ (i + 1) * m.states = omega arith in
+        let next : (i + 1) * m.states + m.states ≡ (i + 1 + 1) * m.states = omega arith in
+        rw next at (whole_more n m.states _ o room cur new _ (i + 1) ((i + 1) * m.states) inv more cells (rw place at d))

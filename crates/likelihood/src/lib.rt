@@ -1,19 +1,16 @@
 // The likelihood of the samples under a model, by the forward and the backward walk (Rabiner's forward-backward procedure).
-// Both walks go down the rows of the lent values: row i is alpha at sample i or, going back, beta at sample T-1-i. A flag says which way,
-// and only the first row, a cell, the time of a row's sample, the last sum and the checks look at it. A sum has a term for each state, 64
+// Both walks go down the rows of the lent values: row i is alpha at sample i or, going back, beta at sample T-1-i. They differ in the first
+// row, a cell, the time of a row's sample, the last sum and the checks, which the trait Way has apart. A sum has a term for each state, 64
 // at most, so they are laid out in a local array, as the emissions of a row's sample are: a walk reads them from there, whatever an
 // emission is made of. The logarithms of a row are taken at its end, one right after the other.
 
 #![tactic(auto)]
 
-ghost use Rattle.std.specs.Prelude.{◌≡◌, ◌+◌, ◌*◌, ◌<◌, ◌≤◌, length};
-ghost use Rattle.lists.specs.Lists.{over};
-ghost use Rattle.sums.specs.Sum.{ln_sum};
+ghost use Rattle.std.specs.Prelude.{◌≡◌, Bool, false, true, ℕ, ◌*◌, ◌+◌, ◌<◌, ◌≤◌, length, Float};
 ghost use Rattle.sums.specs.inner.Open.{opened};
 ghost use Rattle.model.specs.Lent.{lent};
 ghost use Rattle.likelihood.specs.Call.{checked, Forward, Backward};
-ghost use Rattle.likelihood.specs.inner.Sum as Sum;
-ghost use Rattle.likelihood.specs.inner.Sum.{term, Readable, ending, last_sum, Closing};
+ghost use Rattle.likelihood.specs.inner.Sum.{last_sum, Closing};
 ghost use Rattle.likelihood.specs.inner.Row.{Starting, Begun, cell_term, Fitting, Opened, Stepped};
 ghost use Rattle.emission.specs.inner.Row.{Symbols};
 ghost use Rattle.likelihood.specs.inner.Walk.{symbolic, Walkable, time_of, Filled, Valued};
@@ -24,136 +21,135 @@ use checks::{check_rest, check_sizes};
 use emission::{first_row, lay_emissions};
 use floats::minus_infinity;
 use model::{Shape, entry};
-use sums::sum::{Open, close_sum, ln_sum, open_sum};
+use sums::sum::{Open, close_sum, open_sum};
 
-// Which entries of a table a sum reads: from which place on, and how far apart.
-#[derive(Clone, Copy)]
-struct Stride(usize, usize);
-
-// Entry k of those.
-fn strided(table: &[f64], stride: Stride, k: usize) -> f64
-    requires { k * stride.1 + stride.0 < length table.now }
-    ensures { result ≡ Sum.strided table.now stride k }
+// The sum of n terms, before its logarithm is taken: that of f 0, f 1, .., where f is any rule that gives what `term` does.
+#[tactic(auto, using(crate::proofs::Fronts::opened_front))]
+fn sum_of<F: Fn(usize) -> f64>(n: usize, term: F) -> Open
+    requires few_terms { n ≤ 64 }
+    requires callable { (k : ℕ) → k < n → F.pre term k }
+    ensures { (f : ℕ → Float) → ((k : ℕ) (x : Float) → k < n → F.post term k x → x ≡ f k) → result ≡ opened n f }
 {
-    entry(table, k * stride.1 + stride.0)
-}
-
-// The sum over the states k of (row k + arc k) + emission k, before its logarithm is taken.
-fn row_sum(row: &[f64], arcs: &[f64], arc: Stride, emissions: &[f64], emission: Stride) -> Open
-    requires { Readable row.now arcs.now arc emissions.now emission }
-    ensures { result ≡ opened (length row.now)
-        (term row.now arcs.now arc emissions.now emission) }
-{
-    let n = row.len();
     let mut terms = [0.0; 64];
-    let mut k = 0;
-    while k < n {
-        terms[k] = (entry(row, k) + strided(arcs, arc, k)) + strided(emissions, emission, k);
-        k += 1;
+    for k in 0..n {
+        terms[k] = term(k);
     }
     open_sum(&terms[..n])
 }
 
-// The sum over the states k of row k + end k.
-fn end_sum(row: &[f64], end: &[f64]) -> f64
-    requires { (length row.now ≤ 64) × (length row.now ≤ length end.now) }
-    ensures { result ≡ ln_sum (length row.now) (ending row.now end.now) }
-{
-    let n = row.len();
-    let mut terms = [0.0; 64];
-    let mut k = 0;
-    while k < n {
-        terms[k] = entry(row, k) + entry(end, k);
-        k += 1;
+// One of the two ways in which a walk makes its rows.
+trait Way {
+    // Whether it is the backward walk.
+    const BACK: bool;
+
+    ghost BACK: { Bool };
+
+    // The first row.
+    fn begin(initial: &[f64], end: &[f64], emissions: &[f64], values: &mut [f64])
+        requires { Starting initial.now end.now emissions.now values.old }
+        ensures { Begun BACK initial.now end.now emissions.now
+            values.old values.new };
+
+    // State j of the row after `row`, before its logarithm is taken.
+    fn cell(row: &[f64], transition: &[f64], emissions: &[f64], states: usize, j: usize) -> Open
+        requires fitting { Fitting states transition.now emissions.now }
+        requires row_len { (length row.now ≡ states) × (j < states) }
+        ensures { result ≡ opened states (cell_term BACK states transition.now emissions.now row.now j) };
+
+    // The time of the sample whose emissions enter row i + 1, of as many samples.
+    fn time_of(samples: usize, i: usize) -> usize
+        requires { i + 1 < samples }
+        ensures { result ≡ time_of BACK samples i };
+
+    // What the last row sums up to.
+    fn last_sum(row: &[f64], initial: &[f64], end: &[f64], emissions: &[f64]) -> f64
+        requires { Closing row.now initial.now end.now emissions.now }
+        ensures { result ≡ last_sum BACK row.now initial.now end.now emissions.now };
+}
+
+// The forward walk, from the first sample to the last: a row is alpha at its sample.
+struct Alpha;
+
+impl Way for Alpha {
+    const BACK: bool = false;
+
+    ghost BACK = { false };
+
+    fn begin(initial: &[f64], end: &[f64], emissions: &[f64], values: &mut [f64]) {
+        first_row(initial, emissions, values);
     }
-    ln_sum(&terms[..n])
-}
 
-// The first row, going back: the end table.
-fn end_row(end: &[f64], values: &mut [f64])
-    requires { length end.now ≤ length values.old }
-    ensures { values.new ≡ over 0 end.now values.old }
-{
-    let mut j = 0;
-    while j < end.len() {
-        values[j] = entry(end, j);
-        j += 1;
+    #[tactic(auto, unfolding(crate::specs::inner::Row::cell_term))]
+    fn cell(row: &[f64], transition: &[f64], emissions: &[f64], states: usize, j: usize) -> Open {
+        sum_of(
+            states,
+            |k| (entry(row, k) + entry(transition, k * states + j)) + entry(emissions, j),
+        )
+    }
+
+    fn time_of(samples: usize, i: usize) -> usize {
+        i + 1
+    }
+
+    #[tactic(auto, using(sums::proofs::Loops::closed_done), unfolding(crate::specs::inner::Sum::last_sum))]
+    fn last_sum(row: &[f64], initial: &[f64], end: &[f64], emissions: &[f64]) -> f64 {
+        close_sum(sum_of(row.len(), |k| entry(row, k) + entry(end, k)))
     }
 }
 
-// The first row.
-fn begin(back: bool, initial: &[f64], end: &[f64], emissions: &[f64], values: &mut [f64])
-    requires { Starting initial.now end.now emissions.now values.old }
-    ensures { Begun back initial.now end.now emissions.now
-        values.old values.new }
-{
-    if back {
-        end_row(end, values);
-        return;
+// The backward walk, from the last sample to the first: a row is beta at its sample.
+struct Beta;
+
+impl Way for Beta {
+    const BACK: bool = true;
+
+    ghost BACK = { true };
+
+    #[tactic(auto, unfolding(lists::specs::Lists::over))]
+    fn begin(initial: &[f64], end: &[f64], emissions: &[f64], values: &mut [f64]) {
+        values[..end.len()].copy_from_slice(end);
     }
-    first_row(initial, emissions, values);
-}
 
-// State j of the row after `row`, before its logarithm is taken.
-fn cell(
-    back: bool,
-    row: &[f64],
-    transition: &[f64],
-    emissions: &[f64],
-    states: usize,
-    j: usize,
-) -> Open
-    requires fitting { Fitting states transition.now emissions.now }
-    requires row_len { (length row.now ≡ states) × (j < states) }
-    ensures { result ≡ opened states (cell_term back states transition.now emissions.now row.now j) }
-{
-    if back {
-        return row_sum(
-            row,
-            transition,
-            Stride(j * states, 1),
-            emissions,
-            Stride(0, 1),
-        );
+    #[tactic(auto, unfolding(crate::specs::inner::Row::cell_term))]
+    fn cell(row: &[f64], transition: &[f64], emissions: &[f64], states: usize, j: usize) -> Open {
+        sum_of(
+            states,
+            |k| (entry(row, k) + entry(transition, j * states + k)) + entry(emissions, k),
+        )
     }
-    row_sum(row, transition, Stride(j, states), emissions, Stride(j, 0))
+
+    fn time_of(samples: usize, i: usize) -> usize {
+        samples - 1 - i
+    }
+
+    #[tactic(auto, using(sums::proofs::Loops::closed_done), unfolding(crate::specs::inner::Sum::last_sum))]
+    fn last_sum(row: &[f64], initial: &[f64], end: &[f64], emissions: &[f64]) -> f64 {
+        close_sum(sum_of(
+            row.len(),
+            |k| (entry(row, k) + entry(initial, k)) + entry(emissions, k),
+        ))
+    }
 }
 
-// The sums of a row before their logarithms are taken, state by state: the greatest term of each, and the sum over the others.
-#[derive(Clone, Copy)]
-struct OpenRow {
-    values: [f64; 64],
-    sums: [f64; 64],
-}
-
-// The row after `row`, before its logarithms are taken.
-fn open_row(
-    back: bool,
-    row: &[f64],
-    transition: &[f64],
-    emissions: &[f64],
-    states: usize,
-) -> OpenRow
+// The row after `row`, before its logarithms are taken: the sums stand at the front.
+fn open_row<W: Way>(row: &[f64], transition: &[f64], emissions: &[f64], states: usize) -> [Open; 64]
     requires fitting { Fitting states transition.now emissions.now }
     requires row_len { length row.now ≡ states }
-    ensures { Opened states result.values result.sums
-        (cell_term back states transition.now emissions.now row.now) }
+    ensures { Opened states result
+        (cell_term W.BACK states transition.now emissions.now row.now) }
 {
-    let mut values = [0.0; 64];
-    let mut sums = [0.0; 64];
-    let mut j = 0;
-    while j < states {
-        let sum = cell(back, row, transition, emissions, states, j);
-        values[j] = sum.value;
-        sums[j] = sum.sum;
-        j += 1;
+    let mut sums = [Open {
+        value: 0.0,
+        sum: 0.0,
+    }; 64];
+    for j in 0..states {
+        sums[j] = W::cell(row, transition, emissions, states, j);
     }
-    OpenRow { values, sums }
+    sums
 }
 
 // The row after the one that starts at `at`.
-fn next_row(
-    back: bool,
+fn next_row<W: Way>(
     values: &mut [f64],
     at: usize,
     transition: &[f64],
@@ -162,35 +158,18 @@ fn next_row(
 )
     requires fitting { Fitting states transition.now emissions.now }
     requires states_in_bounds { at + states + states ≤ length values.old }
-    ensures { Stepped back states at transition.now emissions.now
+    ensures { Stepped W.BACK states at transition.now emissions.now
         values.old values.new }
 {
     let base = at + states;
-    let row = open_row(back, &values[at..base], transition, emissions, states);
-    let mut j = 0;
-    while j < states {
-        values[base + j] = close_sum(Open {
-            value: row.values[j],
-            sum: row.sums[j],
-        });
-        j += 1;
+    let sums = open_row::<W>(&values[at..base], transition, emissions, states);
+    for j in 0..states {
+        values[base + j] = close_sum(sums[j]);
     }
-}
-
-// The time of the sample whose emissions enter row i + 1, of as many samples.
-fn time_of(back: bool, samples: usize, i: usize) -> usize
-    requires { i + 1 < samples }
-    ensures { result ≡ time_of back samples i }
-{
-    if back {
-        return samples - 1 - i;
-    }
-    i + 1
 }
 
 // All rows.
-fn walk(
-    back: bool,
+fn walk<W: Way>(
     shape: Shape,
     transition: &[f64],
     emission: &[f64],
@@ -201,7 +180,7 @@ fn walk(
 )
     requires walkable { Walkable shape.states (length samples.now) transition.now initial.now end.now values.old }
     requires symbols { Symbols shape.states shape.symbols emission.now samples.now }
-    ensures { Filled back
+    ensures { Filled W.BACK
         (symbolic shape transition.now emission.now initial.now end.now samples.now)
         (length samples.now)
         values.old values.new }
@@ -209,38 +188,22 @@ fn walk(
     let states = shape.states;
     let mut emissions = [0.0; 64];
     lay_emissions(emission, states, shape.symbols, samples, 0, &mut emissions);
-    begin(back, initial, end, &emissions[..states], values);
-    let mut i = 0;
-    let mut at = 0;
-    while i + 1 < samples.len() {
+    W::begin(initial, end, &emissions[..states], values);
+    for i in 0..samples.len() - 1 {
         lay_emissions(
             emission,
             states,
             shape.symbols,
             samples,
-            time_of(back, samples.len(), i),
+            W::time_of(samples.len(), i),
             &mut emissions,
         );
-        next_row(back, values, at, transition, &emissions[..states], states);
-        at += states;
-        i += 1;
+        next_row::<W>(values, i * states, transition, &emissions[..states], states);
     }
-}
-
-// What the last row sums up to: going back, (row + initial) + emission of the first sample; else row + end.
-fn last_sum(back: bool, row: &[f64], initial: &[f64], end: &[f64], emissions: &[f64]) -> f64
-    requires { Closing row.now initial.now end.now emissions.now }
-    ensures { result ≡ last_sum back row.now initial.now end.now emissions.now }
-{
-    if back {
-        return close_sum(row_sum(row, initial, Stride(0, 1), emissions, Stride(0, 1)));
-    }
-    end_sum(row, end)
 }
 
 // All rows, and the value of the walk.
-fn value_of(
-    back: bool,
+fn value_of<W: Way>(
     shape: Shape,
     transition: &[f64],
     emission: &[f64],
@@ -251,20 +214,18 @@ fn value_of(
 ) -> f64
     requires walkable { Walkable shape.states (length samples.now) transition.now initial.now end.now values.old }
     requires symbols { Symbols shape.states shape.symbols emission.now samples.now }
-    ensures { Valued back
+    ensures { Valued W.BACK
         (symbolic shape transition.now emission.now initial.now end.now samples.now)
         (length samples.now)
         values.old result values.new }
 {
-    walk(
-        back, shape, transition, emission, initial, end, samples, values,
-    );
+    walk::<W>(shape, transition, emission, initial, end, samples, values);
     let states = shape.states;
     let mut emissions = [0.0; 64];
     lay_emissions(emission, states, shape.symbols, samples, 0, &mut emissions);
     let at = (samples.len() - 1) * states;
     let to = at + states;
-    last_sum(back, &values[at..to], initial, end, &emissions[..states])
+    W::last_sum(&values[at..to], initial, end, &emissions[..states])
 }
 
 // The checks of either walk: values is the length of output 5.
@@ -308,8 +269,7 @@ fn check(
 }
 
 // The answer of either walk. Of no samples, which the checks of the backward walk alone let through, it is minus infinity.
-fn answer_of(
-    back: bool,
+fn answer_of<W: Way>(
     shape: Shape,
     transition: &[f64],
     emission: &[f64],
@@ -318,12 +278,12 @@ fn answer_of(
     samples: &[u16],
     values: &mut [f64],
 ) -> Answer
-    ensures { Answered back
+    ensures { Answered W.BACK
         (lent shape transition.now emission.now initial.now end.now samples.now)
         values.old result values.new }
 {
     let checked = check(
-        !back,
+        !W::BACK,
         shape,
         transition,
         emission,
@@ -335,12 +295,10 @@ fn answer_of(
     if !is_done(checked) {
         return checked;
     }
-    if samples.len() == 0 {
+    if samples.is_empty() {
         return done(minus_infinity());
     }
-    done(value_of(
-        back, shape, transition, emission, initial, end, samples, values,
-    ))
+    done(value_of::<W>(shape, transition, emission, initial, end, samples, values))
 }
 
 // The likelihood of the samples, by the forward walk. Row t of the values becomes alpha at sample t, a state a place, and their surplus
@@ -358,10 +316,7 @@ pub fn forward(
         (lent shape transition.now emission.now initial.now end.now samples.now)
         values.old result values.new }
 {
-    let back = false;
-    answer_of(
-        back, shape, transition, emission, initial, end, samples, values,
-    )
+    answer_of::<Alpha>(shape, transition, emission, initial, end, samples, values)
 }
 
 // The likelihood of the samples, by the backward walk. Row i of the values becomes beta at sample T-1-i, a state a place, and their
@@ -379,8 +334,5 @@ pub fn backward(
         (lent shape transition.now emission.now initial.now end.now samples.now)
         values.old result values.new }
 {
-    let back = true;
-    answer_of(
-        back, shape, transition, emission, initial, end, samples, values,
-    )
+    answer_of::<Beta>(shape, transition, emission, initial, end, samples, values)
 }

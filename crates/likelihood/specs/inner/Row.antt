@@ -1,11 +1,11 @@
 -- One row of a walk, over lists as they lie in memory: the first one, a cell of a later one, and all cells of it. `emissions` are those of
 -- the row's sample, state by state. A flag says which way the walk goes: true is backward.
 use Rattle.std.specs.Prelude.{ℕ, ◌+◌, ◌*◌, ◌≤◌, ◌≡◌, Bool, true, false, List, length, take, drop, Float}
-use Rattle.std.specs.Float.{nan}
 use Rattle.floats.specs.Float.{◌⊕◌, at}
 use Rattle.lists.specs.Lists.{tab, over}
 use Rattle.lists.specs.inner.Holds.{Holds}
 use Rattle.sums.specs.Sum.{ln_sum}
+use Rattle.sums.specs.declared.sum.Open.{Open}
 use Rattle.sums.specs.inner.Open.{opened}
 use Rattle.model.specs.Model.{transition_of}
 use Rattle.emission.specs.inner.Row.{first_row, Beginning}
@@ -38,10 +38,9 @@ pub record Fitting (S : ℕ) (transition emissions : List Float) : Type 0 where
   pub transition_length : length transition ≡ S * S
   pub emissions_length : length emissions ≡ S
 
--- S sums whose terms are f 0, f 1, .. stand, before their logarithms are taken, as greatest terms and sums over the others
-pub record Opened (S : ℕ) (values sums : List Float) (f : ℕ → ℕ → Float) : Type 0 where
-  pub greatest : Holds nan S (λ (j : ℕ). (opened S (f j)).value) values
-  pub others : Holds nan S (λ (j : ℕ). (opened S (f j)).sum) sums
+-- S sums whose terms are f 0, f 1, .. stand at the front, before their logarithms are taken; d is what is read past the end
+abbrev pub Opened : ℕ → List Open → (ℕ → ℕ → Float) → Type 0
+Opened S sums f = (d : Open) → Holds d S (λ (j : ℕ). opened S (f j)) sums
 
 -- the row after the one at place i is laid over o
 abbrev pub Stepped : Bool → ℕ → ℕ → List Float → List Float → List Float → List Float → Type 0

@@ -1,27 +1,7 @@
--- One sum of a walk, over lists as they lie in memory: the terms of a cell, which strides pick from the tables, and those of the last sum.
--- A flag says which way the walk goes: true is backward.
-use Rattle.std.specs.Prelude.{ℕ, ◌+◌, ◌*◌, ◌<◌, ◌≤◌, ◌≡◌, Bool, true, false, List, length, Float}
+-- The last sum of a walk, over lists as they lie in memory. A flag says which way the walk goes: true is backward.
+use Rattle.std.specs.Prelude.{ℕ, ◌≤◌, ◌≡◌, Bool, true, false, List, length, Float}
 use Rattle.floats.specs.Float.{◌⊕◌, at}
 use Rattle.sums.specs.Sum.{ln_sum}
-use Rattle.likelihood.specs.declared.Stride.{Stride}
-
--- entry k of those that a stride picks from a table
-abbrev pub strided : List Float → Stride → ℕ → Float
-strided table s k = at table (k * s.1 + s.0)
-
--- the first n of them lie within the table
-abbrev pub Within : ℕ → List Float → Stride → Type 0
-Within n table s = (k : ℕ) → k < n → k * s.1 + s.0 < length table
-
--- term k: (row k + arc k) + emission k
-abbrev pub term : List Float → List Float → Stride → List Float → Stride → ℕ → Float
-term row arcs arc emissions emission k = (at row k ⊕ strided arcs arc k) ⊕ strided emissions emission k
-
--- the terms can be read, one for each place of the row
-pub record Readable (row arcs : List Float) (arc : Stride) (emissions : List Float) (emission : Stride) : Type 0 where
-  pub few_states : length row ≤ 64
-  pub arcs_within : Within (length row) arcs arc
-  pub emissions_within : Within (length row) emissions emission
 
 -- term k of the last sum of the forward walk: last row + end (RULES 6.2)
 abbrev pub ending : List Float → List Float → ℕ → Float
