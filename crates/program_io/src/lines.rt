@@ -1,36 +1,32 @@
-// Lines on standard output: text, counts, bits, answers.
+// How numbers and answers stand on lines of standard output.
 use answer::{Answer, number};
-use floats::is_number;
-use std::io;
+use std::fmt;
 
-// Bytes as they are.
-pub fn text(rt: &impl Print, s: &[u8]) -> io::Result<()> {
-    rt.write_all(s)
-}
+// A number by its bits, as 16 hexadecimal digits, and a NaN by its name.
+#[derive(Clone, Copy)]
+pub struct Bits(pub f64);
 
-// A number in decimal.
-pub fn count(rt: &impl Print, n: u64) -> io::Result<()> {
-    print!(rt; "{n}")
-}
-
-// The bits of x as 16 hexadecimal digits, and a NaN by its name.
-pub fn bits(rt: &impl Print, x: f64) -> io::Result<()> {
-    if is_number(x) {
-        let word = f64::to_bits(x);
-        print!(rt; "{word:016x}")
-    } else {
-        text(rt, b"nan")
+impl fmt::Display for Bits {
+    fn fmt<W: fmt::Write>(&self, f: &mut fmt::Formatter<W>) -> fmt::Result {
+        if self.0.is_nan() {
+            return write!(f, "nan");
+        }
+        write!(f, "{:016x}", self.0.to_bits())
     }
 }
 
-// The answer's refusal, table, place and value.
-pub fn answer(rt: &impl Print, a: Answer) -> io::Result<()> {
-    let refusal = a.refusal;
-    count(rt, number(refusal) as u64)?;
-    text(rt, b" ")?;
-    count(rt, a.table as u64)?;
-    text(rt, b" ")?;
-    count(rt, a.place as u64)?;
-    text(rt, b" ")?;
-    bits(rt, a.value)
+// An answer by its refusal's number, its table, its place and its value.
+#[derive(Clone, Copy)]
+pub struct Shown(pub Answer);
+
+impl fmt::Display for Shown {
+    fn fmt<W: fmt::Write>(&self, f: &mut fmt::Formatter<W>) -> fmt::Result {
+        let Answer {
+            refusal,
+            table,
+            place,
+            value,
+        } = self.0;
+        write!(f, "{} {table} {place} {}", number(refusal), Bits(value))
+    }
 }

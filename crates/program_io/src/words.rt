@@ -1,28 +1,12 @@
 // Words of 8 bytes, little-endian, from standard input, and the f64 that they are the bits of.
-ghost use Rattle.std.specs.Prelude.{◌≡◌, ◌<◌, ◌≤◌, IfOk, OnErr, length};
+ghost use Rattle.std.specs.Prelude.{◌≡◌, ℕ, ◌%◌, ◌≤◌, IfOk, OnErr, length};
 ghost use Rattle.std.specs.Float.Ieee.{of_bits};
 ghost use Rattle.std.specs.Float.{binary64};
-ghost use Rattle.program_io.specs.Words.{word_of, word_at};
+ghost use Rattle.program_io.specs.Words.{word_at};
 
 use std::io;
 use std::io::Read;
-
-// A byte as a number.
-pub fn wide(x: u8) -> u64
-    ensures { (result ≡ x) × (result < 256) }
-{
-    x as u64
-}
-
-// The word of these bytes, from the lowest up.
-fn word(b: &[u8; 8]) -> u64
-    ensures { result ≡ word_of b.now }
-{
-    let x = wide(b[7]) * 256 + wide(b[6]);
-    let x = (x * 256 + wide(b[5])) * 256 + wide(b[4]);
-    let x = (x * 256 + wide(b[3])) * 256 + wide(b[2]);
-    (x * 256 + wide(b[1])) * 256 + wide(b[0])
-}
+use std::num::f64_from_bits_with_nan;
 
 // Reads until the buffer is full or the input ends, and how many bytes are then in its front. A failed read is returned: what was read by
 // then stands in the front, and the buffer is as long as it was.
@@ -47,34 +31,51 @@ pub fn read_words(input: &mut impl Read, into: &mut [u64]) -> io::Result<usize>
     ensures count { IfOk result (λ n. n ≤ length into.old) }
     ensures failed { OnErr result (length into.new ≡ length into.old) }
 {
-    let mut n = 0;
-    while n < into.len() {
-        let mut b = [0u8; 8];
-        if read_full(input, &mut b[..])? < 8 {
-            return Ok(n);
+    for i in 0..into.len() {
+        let mut bytes = [0u8; 8];
+        if read_full(input, &mut bytes)? < bytes.len() {
+            return Ok(i);
         }
-        into[n] = word(&b);
-        n += 1;
+        into[i] = u64::from_le_bytes(bytes);
     }
-    Ok(n)
+    Ok(into.len())
 }
 
 // Word i of a list; 0 where there is none.
 pub fn word_at(list: &[u64], i: usize) -> u64
     ensures { result ≡ word_at list.now i }
 {
-    if i < list.len() {
-        return list[i];
-    }
-    0
+    list.get(i).copied().unwrap_or(0)
 }
 
-// The f64 of these bits; one NaN for all of theirs.
-pub fn number(bits: u64) -> f64
-    ensures { result ≡ of_bits binary64 bits }
-{
-    if bits % 0x8000_0000_0000_0000 > 0x7ff0_0000_0000_0000 {
-        return 0.0 / 0.0;
+// What a word says: a number by its bits, one NaN for all of theirs, or a sample or a byte, which has the word's lowest bits.
+pub trait FromWord: Copy {
+    ghost word_gives: { ℕ → Self };
+
+    fn from_word(word: u64) -> Self
+        ensures { result ≡ word_gives word };
+}
+
+impl FromWord for f64 {
+    ghost word_gives = { of_bits binary64 };
+
+    fn from_word(word: u64) -> f64 {
+        f64_from_bits_with_nan(word)
     }
-    f64::from_bits(bits)
+}
+
+impl FromWord for u16 {
+    ghost word_gives = { λ word. word % 65536 };
+
+    fn from_word(word: u64) -> u16 {
+        (word % 65536) as u16
+    }
+}
+
+impl FromWord for u8 {
+    ghost word_gives = { λ word. word % 256 };
+
+    fn from_word(word: u64) -> u8 {
+        (word % 256) as u8
+    }
 }
