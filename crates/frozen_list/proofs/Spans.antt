@@ -1,24 +1,11 @@
--- Every list of a case lies in it.
-use Rattle.std.proofs.Common.{◌≡◌, ℕ, zero, suc, ◌+◌, ◌-◌, ◌<◌, ◌≤◌, Bool, true, false, ltb, leb, List, length, refl, arith, ltb-true, leb-true}
-use Rattle.program_io.specs.Words.{word_at}
-use Rattle.frozen_list.specs.declared.cases.Span.{Span}
-use Rattle.frozen_list.specs.Cases.{span_at, span_of}
+-- After a list of which the case has not all there is none.
+use Rattle.std.proofs.Common.{◌≡◌, ℕ, zero, suc, ◌+◌, ◌-◌, ◌≤◌, List, None, arith, sym, add-zero, add-suc}
+use Rattle.frozen_list.specs.Cases.{span_of}
 
-abbrev pub Lies : Span → List ℕ → Type 0
-Lies s case = (s.start ≤ s.end) × (s.end ≤ length case)
-
-at_lies : (case : List ℕ) (at : ℕ) → Lies (span_at case at) case
-at_lies case at = go (ltb at (length case)) (leb (word_at case at) (length case - (at + 1))) refl refl
-  where
-    go : (a b : Bool) → ltb at (length case) ≡ a → leb (word_at case at) (length case - (at + 1)) ≡ b → Lies (span_at case at) case
-    go true true p q =
-        let h : at < length case = ltb-true _ _ p in
-        let l : word_at case at ≤ length case - (at + 1) = leb-true _ _ q in
-        simp (p, q) (omega arith, omega arith)
-    go true false p q = simp (p, q) (omega arith, omega arith)
-    go false b p q = simp p (omega arith, omega arith)
-
-pub lies : (case : List ℕ) (k : ℕ) → Lies (span_of case k) case
+none_after : (case : List ℕ) (i more : ℕ) → span_of case i ≡ None → span_of case (i + more) ≡ None
 unfolding span_of
-lies case zero = at_lies case 5
-lies case (suc k) = at_lies case _
+none_after case i zero e = rw add-zero e
+none_after case i (suc more) e = rw (add-suc, none_after case i more e)
+
+pub none_from : (case : List ℕ) (i k : ℕ) → span_of case i ≡ None → i ≤ k → None ≡ span_of case k
+none_from case i k e h = let is : i + (k - i) ≡ k = omega arith in sym (rw is at (none_after case i (k - i) e))

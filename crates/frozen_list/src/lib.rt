@@ -2,5 +2,6 @@
 
 #![tactic(auto)]
 
+pub mod calls;
 pub mod cases;
 pub mod tally;

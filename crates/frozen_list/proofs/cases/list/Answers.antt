@@ -1,20 +1,17 @@
-use Rattle.std.proofs.Common.{◌≡◌, add-one, arith}
+use Rattle.std.proofs.Common.{◌≡◌, ◌+◌, None, sym, ◌∙◌, add-one, arith}
 use Rattle.frozen_list.specs.Cases.{span_of}
-use Rattle.frozen_list.proofs.Spans.{lies}
+use Rattle.frozen_list.proofs.Spans.{none_from}
 use Rattle.frozen_list.proofs.cases.list.Goals as goal
 
-pub loop-i-init : goal.loop-i-init
+pub returns-in_err-found-clause-found : goal.returns-in_err-found-clause-found
 unfolding span_of
-loop-i-init c = (omega arith, c.list_at-found.ensures)
+returns-in_err-found-clause-found c =
+    c.from_residual.ensures
+    ∙ none_from c.args.case.now 0 c.args.k (sym c.list_at.ensures.found ∙ c.in_err-found.was) (omega arith)
 
-pub loop-i-preserved : goal.loop-i-preserved
+pub returns-in_err-found-2-clause-found : goal.returns-in_err-found-2-clause-found
 unfolding span_of
-loop-i-preserved c = let turn = c.before.before in
-    (omega arith, rw add-one (rw turn.loop-i.invariant.1 at c.list_at-found-in-loop-i.ensures))
-
-pub returns : goal.returns
-returns c = let start = c.before.before.before.before in
-    let found = c.loop-i in
-    let last : found.i ≡ start.args.k = omega (arith, found.invariant.0) in
-    let inside = lies start.args.case.now found.i in
-    (rw last at found.invariant.1, rw found.invariant.1 inside.0, rw found.invariant.1 inside.1)
+returns-in_err-found-2-clause-found c =
+    let next : span_of c.args.case.now (c.loop.counter + 1) ≡ None =
+    rw (add-one c.loop.counter, c.loop.invariant.0) (sym c.list_at-in-loop.ensures.found ∙ c.in_err-found-2.was) in
+    c.from_residual-in_err-found-2.ensures ∙ none_from c.args.case.now (c.loop.counter + 1) c.args.k next (omega arith)

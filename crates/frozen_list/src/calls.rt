@@ -1,0 +1,82 @@
+// The calls of the frozen list.
+#[derive(Clone, Copy)]
+pub enum Call {
+    Viterbi,
+    Forward,
+    Backward,
+    BaumWelch,
+    Exp,
+    Ln,
+    LnOneMinusExp,
+    LnSumExp,
+    LnAddExp,
+    LnSubExp,
+    LnCumsumExp,
+    CapNumericalOvershoot,
+    IsValid,
+    ProbChecked,
+    LogProbFromProb,
+    ProbFromLogProb,
+    PhredProbFromLogProb,
+    LogProbFromPhredProb,
+    ReadModel,
+    WriteModel,
+    FileLength,
+    Rival,
+}
+
+// Each call at its number.
+pub const CALLS: [Call; 22] = [
+    Call::Viterbi,
+    Call::Forward,
+    Call::Backward,
+    Call::BaumWelch,
+    Call::Exp,
+    Call::Ln,
+    Call::LnOneMinusExp,
+    Call::LnSumExp,
+    Call::LnAddExp,
+    Call::LnSubExp,
+    Call::LnCumsumExp,
+    Call::CapNumericalOvershoot,
+    Call::IsValid,
+    Call::ProbChecked,
+    Call::LogProbFromProb,
+    Call::ProbFromLogProb,
+    Call::PhredProbFromLogProb,
+    Call::LogProbFromPhredProb,
+    Call::ReadModel,
+    Call::WriteModel,
+    Call::FileLength,
+    Call::Rival,
+];
+
+impl Call {
+    // The name that the library gives it.
+    pub fn name(self) -> &'static str {
+        match self {
+            Call::Viterbi => "viterbi",
+            Call::Forward => "forward",
+            Call::Backward => "backward",
+            Call::BaumWelch => "baum_welch",
+            Call::Exp => "exp",
+            Call::Ln => "ln",
+            Call::LnOneMinusExp => "ln_one_minus_exp",
+            Call::LnSumExp => "ln_sum_exp",
+            Call::LnAddExp => "ln_add_exp",
+            Call::LnSubExp => "ln_sub_exp",
+            Call::LnCumsumExp => "ln_cumsum_exp",
+            Call::CapNumericalOvershoot => "cap_numerical_overshoot",
+            Call::IsValid => "is_valid",
+            Call::ProbChecked => "Prob::checked",
+            Call::LogProbFromProb => "LogProb::from_prob",
+            Call::ProbFromLogProb => "Prob::from_log_prob",
+            Call::PhredProbFromLogProb => "PHREDProb::from_log_prob",
+            Call::LogProbFromPhredProb => "LogProb::from_phred_prob",
+            Call::ReadModel => "read_model",
+            Call::WriteModel => "write_model",
+            Call::FileLength => "file_length",
+            Call::Rival => "rival",
+        }
+    }
+}
