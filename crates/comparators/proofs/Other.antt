@@ -1,45 +1,17 @@
--- Laws of `differ`: what a loop that looks for another place knows at place i, and what it has found when it stops.
-use Prim.Native.Nat.{ℕ, zero, suc, ◌+◌, ◌≤◌, ◌<◌}
-use mathlib.Core.Path.{◌≡◌, refl, sym}
-use mathlib.Core.Bool.{Bool, true, false, ◌||◌}
-use mathlib.Core.Logic.{⊎_elim}
-use native.Mathlib.Numerals.{add-one}
-use native.Mathlib.Nat.{not-suc-le-zero, eq-or-lt_of_le, le_of_suc-le-suc}
-use native.Mathlib.Omega.{arith}
-use lib.Dec.{ltb}
-use borrow.Author.Tests.{lt-ltb, le-ltb}
-use Rattle.comparators.specs.Compare.{some_other, differ}
-
-either : (a b : Bool) → b ≡ true → (a || b) ≡ true
-either true b e = refl
-either false b e = e
+-- A place that is another makes the whole another.
+use Rattle.std.proofs.Common.{◌≡◌, ℕ, zero, suc, ◌<◌, ◌≤◌, Bool, true, List, length, get_or, arith}
+use Rattle.std.proofs.lemmas.List.{get_or_default}
+use Rattle.comparators.specs.Compare.{other_place, some_other, changed}
 
 found : (other : ℕ → Bool) (n i : ℕ) → i < n → other i ≡ true → some_other other n ≡ true
 unfolding some_other
-found other zero i h t = absurd (not-suc-le-zero h)
-found other (suc n) i h t =
-    ⊎_elim (λ (e : i ≡ n). rw (rw e at t)) (λ (l : i < n). either (other n) _ (found other n i l t)) (eq-or-lt_of_le (le_of_suc-le-suc h))
+found other zero i h t = absurd (omega arith)
+found other (suc n) i h t = let below = found other n i in grind (arith, below)
 
-module _ (other : ℕ → Bool) (n : ℕ) where
-  -- there is room for n places, and none below i is another
-  pub record Same (i : ℕ) : Type 0 where
-    pub room : n ≤ 1024
-    pub within : i ≤ n
-    pub none : some_other other i ≡ false
-
-  pub same_none : n ≤ 1024 → Same 0
-  unfolding some_other
-  same_none h = record { room = h; within = omega arith; none = refl }
-
-  pub same_more : (i : ℕ) → Same i → i < n → other i ≡ false → Same (i + 1)
-  unfolding some_other
-  same_more i inv h e = record { room = inv.room; within = omega arith; none = rw (add-one, e) inv.none }
-
-  pub too_long : 1024 < n → true ≡ differ other n
-  too_long h = rw (lt-ltb 1024 n h)
-
-  pub differs : (i : ℕ) → i < n → other i ≡ true → true ≡ differ other n
-  differs i h t = sym (either (ltb 1024 n) _ (found other n i h t))
-
-  pub agrees : (i : ℕ) → Same i → n ≤ i → false ≡ differ other n
-  agrees i inv h = let e : i ≡ n = omega arith in rw (le-ltb 1024 n inv.room) (sym (rw e at inv.none))
+pub changed_at : {A : Type 0} (differs : A → ℕ → Bool) (blank d : A) (output : List A) (list : List ℕ) (i : ℕ) → i < length list
+    → length list ≤ length output → differs (get_or output i d) (get_or list i 0) ≡ true
+    → true ≡ changed (other_place differs blank output) list
+changed_at differs blank d output list i h room t =
+    let same = get_or_default output i blank d (omega arith) in
+    let e = found (other_place differs blank output list) (length list) i h (rw same t) in
+    grind (arith, e)

@@ -1,6 +1,6 @@
 -- What differs from a frozen case: its words are the bits of numbers, bytes, or the parts of an answer.
 use Rattle.std.specs.Prelude.{ℕ, zero, suc, Bool, false, cond, not, ◌&&◌, ◌||◌, List, eqb, ltb, Float, length, get_or}
-use Rattle.std.specs.Float.{nan, binary64}
+use Rattle.std.specs.Float.{binary64}
 use Rattle.std.specs.Float.Ieee.{to_bits}
 use Rattle.floats.specs.Float.{is_number}
 use Rattle.answer.specs.declared.Answer.{Answer}
@@ -21,12 +21,9 @@ unfoldable pub some_other : (ℕ → Bool) → ℕ → Bool
 some_other other zero = false
 some_other other (suc n) = other n || some_other other n
 
--- place i of an output is another than the list's
-abbrev pub other_number : List Float → List ℕ → ℕ → Bool
-other_number output list i = is_other_number (get_or output i nan) (word_at list i)
-
-abbrev pub other_byte : List ℕ → List ℕ → ℕ → Bool
-other_byte output list i = is_other (get_or output i 0) (word_at list i)
+-- place i of an output is another than the list's, where `differs` tells what a place holds from a word; past the output's end stands `blank`
+abbrev pub other_place : {A : Type 0} → (A → ℕ → Bool) → A → List A → List ℕ → ℕ → Bool
+other_place differs blank output list i = differs (get_or output i blank) (word_at list i)
 
 -- a list of n words is too long for an output, or some place is another
 abbrev pub differ : (ℕ → Bool) → ℕ → Bool

@@ -2,142 +2,91 @@
 
 #![tactic(auto)]
 
-ghost use Rattle.std.specs.Prelude.{◌≡◌, cond, length, take, replicate};
-ghost use Rattle.std.specs.Float.Ieee.{of_bits};
-ghost use Rattle.std.specs.Float.{binary64};
-ghost use Rattle.comparators.specs.Compare.{is_other, is_other_number, other_number, other_byte, changed};
+ghost use Rattle.std.specs.Prelude.{◌≡◌, ℕ, Bool, length, take, replicate};
+ghost use Rattle.std.specs.Float.{nan};
+ghost use Rattle.comparators.specs.Compare.{is_other, is_other_number, other_place, changed};
 ghost use Rattle.comparators.specs.Compare.{answer_differs, shape_differs, choice_differs};
 ghost use Rattle.frozen_list.specs.Cases.{list_of};
 
-use answer::Answer;
-use floats::is_number;
+use answer::{Answer, number};
 use frozen_list::cases::{length, words};
 use model::Shape;
-use program_io::words::{number, word_at};
+use program_io::words::{FromWord, word_at};
 
 // The most places of an output.
 pub const MOST: usize = 1024;
 
-// An output of numbers before the call: every byte of it is 0xa5.
-pub fn numbers() -> [f64; MOST]
-    ensures { (1024 ≡ length result) × (result ≡ replicate 1024 (of_bits binary64 0xa5a5_a5a5_a5a5_a5a5)) }
-{
-    [number(0xa5a5_a5a5_a5a5_a5a5); MOST]
+// What a place of an output holds, and when it is another than a word says.
+pub trait Place: FromWord {
+    ghost blank: { Self };
+
+    ghost differs: { Self → ℕ → Bool };
+
+    fn is_other(self, word: u64) -> bool
+        ensures { result ≡ differs self word };
 }
 
-// An output of bytes before the call.
-pub fn bytes() -> [u8; MOST]
-    ensures { (1024 ≡ length result) × (result ≡ replicate 1024 0xa5) }
-{
-    [0xa5; MOST]
+impl Place for f64 {
+    ghost blank = { nan };
+
+    ghost differs = { is_other_number };
+
+    // A NaN is another than any word.
+    fn is_other(self, word: u64) -> bool {
+        self.is_nan() || self.to_bits() != word
+    }
 }
 
-// The part of an output of numbers that is lent: as many places as the k-th list has.
-pub fn lent_numbers<'a>(output: &'a mut [f64], case: &[u64], k: usize) -> &'a mut [f64]
+impl Place for u8 {
+    ghost blank = { 0 };
+
+    ghost differs = { is_other };
+
+    fn is_other(self, word: u64) -> bool {
+        u64::from(self) != word
+    }
+}
+
+// An output before the call: every byte of it is 0xa5.
+pub fn untouched<P: Place>() -> [P; MOST]
+    ensures { (1024 ≡ length result) × (result ≡ replicate 1024 (P.word_gives 0xa5a5_a5a5_a5a5_a5a5)) }
+{
+    [P::from_word(0xa5a5_a5a5_a5a5_a5a5); MOST]
+}
+
+// The part of an output that is lent: as many places as the k-th list has.
+pub fn lent<'a, P>(output: &'a mut [P], case: &[u64], k: usize) -> &'a mut [P]
     ensures { result.now ≡ take (length (list_of case.now k)) output.old }
 {
-    let n = length(case, k);
-    if n < output.len() {
-        return &mut output[..n];
-    }
-    output
+    let n = length(case, k).min(output.len());
+    &mut output[..n]
 }
 
-// The part of an output of bytes that is lent.
-pub fn lent_bytes<'a>(output: &'a mut [u8], case: &[u64], k: usize) -> &'a mut [u8]
-    ensures { result.now ≡ take (length (list_of case.now k)) output.old }
+// Whether the front of an output is another than the k-th list.
+#[tactic(auto, unfolding(crate::specs::Compare::some_other))]
+pub fn changed<P: Place>(output: &[P; MOST], case: &[u64], k: usize) -> bool
+    ensures { result ≡ changed (other_place P.differs P.blank output.now) (list_of case.now k) }
 {
-    let n = length(case, k);
-    if n < output.len() {
-        return &mut output[..n];
-    }
-    output
-}
-
-// Whether x is NaN or has other bits than these.
-pub fn is_other(x: f64, bits: u64) -> bool
-    ensures { result ≡ is_other_number x bits }
-{
-    if is_number(x) {
-        return f64::to_bits(x) != bits;
-    }
-    true
-}
-
-// Whether the front of an output of numbers is another than the list.
-fn numbers_differ(output: &[f64; MOST], list: &[u64]) -> bool
-    ensures { result ≡ changed (other_number output.now) list.now }
-{
+    let list = words(case, k);
     if MOST < list.len() {
         return true;
     }
-    let mut i = 0;
-    while i < list.len() {
-        if is_other(output[i], word_at(list, i)) {
+    for i in 0..list.len() {
+        if output[i].is_other(list[i]) {
             return true;
         }
-        i += 1;
     }
     false
-}
-
-// Whether a byte is another than this word.
-fn is_other_byte(x: u8, word: u64) -> bool
-    ensures { result ≡ is_other x word }
-{
-    x as u64 != word
-}
-
-// Whether the front of an output of bytes is another than the list.
-fn bytes_differ(output: &[u8; MOST], list: &[u64]) -> bool
-    ensures { result ≡ changed (other_byte output.now) list.now }
-{
-    if MOST < list.len() {
-        return true;
-    }
-    let mut i = 0;
-    while i < list.len() {
-        if is_other_byte(output[i], word_at(list, i)) {
-            return true;
-        }
-        i += 1;
-    }
-    false
-}
-
-// Whether an output of numbers is another than the k-th list.
-pub fn numbers_changed(output: &[f64; MOST], case: &[u64], k: usize) -> bool
-    ensures { result ≡ changed (other_number output.now) (list_of case.now k) }
-{
-    numbers_differ(output, words(case, k))
-}
-
-// Whether an output of bytes is another than the k-th list.
-pub fn bytes_changed(output: &[u8; MOST], case: &[u64], k: usize) -> bool
-    ensures { result ≡ changed (other_byte output.now) (list_of case.now k) }
-{
-    bytes_differ(output, words(case, k))
 }
 
 // Whether the answer is another than the case's.
 pub fn answer_differs(case: &[u64], a: Answer) -> bool
     ensures { result ≡ answer_differs case.now a }
 {
-    let refusal = a.refusal;
-    (answer::number(refusal) as u64 != word_at(case, 1))
-        | (a.table as u64 != word_at(case, 2))
-        | (a.place as u64 != word_at(case, 3))
-        | is_other(a.value, word_at(case, 4))
-}
-
-// The word of an end state: 1 where there is one, and 0 where there is none.
-fn end_word(ends: bool) -> u64
-    ensures { result ≡ cond ends 1 0 }
-{
-    if ends {
-        return 1;
-    }
-    0
+    number(a.refusal).is_other(word_at(case, 1))
+        || a.table.is_other(word_at(case, 2))
+        || (a.place as u64 != word_at(case, 3))
+        || a.value.is_other(word_at(case, 4))
 }
 
 // Whether the shape is another than the k-th list.
@@ -146,9 +95,9 @@ pub fn shape_differs(case: &[u64], k: usize, shape: Shape) -> bool
 {
     let list = words(case, k);
     (shape.states as u64 != word_at(list, 0))
-        | (shape.symbols as u64 != word_at(list, 1))
-        | (end_word(shape.ends) != word_at(list, 2))
-        | (list.len() != 3)
+        || (shape.symbols as u64 != word_at(list, 1))
+        || (u64::from(shape.ends) != word_at(list, 2))
+        || (list.len() != 3)
 }
 
 // Whether a state and the value of its path are others than the k-th list.
@@ -156,5 +105,5 @@ pub fn choice_differs(case: &[u64], k: usize, state: usize, value: f64) -> bool
     ensures { result ≡ choice_differs (list_of case.now k) state value }
 {
     let list = words(case, k);
-    (state as u64 != word_at(list, 0)) | is_other(value, word_at(list, 1)) | (list.len() != 2)
+    (state as u64 != word_at(list, 0)) || value.is_other(word_at(list, 1)) || (list.len() != 2)
 }

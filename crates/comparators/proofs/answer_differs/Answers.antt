@@ -1,5 +1,0 @@
--- `comparators::answer_differs` meets its contract, by those of its callees.
-use Rattle.comparators.proofs.answer_differs.Goals as goal
-
-pub returns : goal.returns
-returns c = cc

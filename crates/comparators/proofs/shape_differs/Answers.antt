@@ -1,5 +1,0 @@
--- `comparators::shape_differs` meets its contract, by those of its callees.
-use Rattle.comparators.proofs.shape_differs.Goals as goal
-
-pub returns : goal.returns
-returns c = cc
