@@ -1,2 +1,3 @@
 -- What only inner functions promise.
 pub mod Open
+pub mod Terms

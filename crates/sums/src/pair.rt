@@ -7,6 +7,7 @@ use floats::{is_infinite, is_minus_infinity, is_plus_infinity, magnitude, minus_
 use kernels::{exp_of, ln_1m_of, ln_of};
 
 // The sum of p0 and p1, p0 being the greater.
+#[tactic(auto, unfolding(crate::specs::Pair::ln_add_to))]
 fn ln_add_to(p0: f64, p1: f64) -> f64
     ensures { result ≡ ln_add_to p0 p1 }
 {
@@ -17,6 +18,7 @@ fn ln_add_to(p0: f64, p1: f64) -> f64
 }
 
 // ln(exp(x) + exp(y)) of two numbers.
+#[tactic(auto, unfolding(crate::specs::Pair::ln_add))]
 pub fn ln_add(x: f64, y: f64) -> f64
     ensures { result ≡ ln_add x y }
 {
@@ -30,10 +32,8 @@ pub fn ln_add(x: f64, y: f64) -> f64
     }
 }
 
-// 2^-52: the distance from 1 to the next f64.
-const EPSILON: f64 = 2.220446049250313e-16;
-
 // The greater of |x| and |y|.
+#[tactic(auto, unfolding(crate::specs::Pair::larger))]
 fn larger(x: f64, y: f64) -> f64
     ensures { result ≡ Pair.larger x y }
 {
@@ -47,26 +47,19 @@ fn is_near(p0: f64, p1: f64) -> bool
     ensures { result ≡ is_near p0 p1 }
 {
     let distance = magnitude(p0 - p1);
-    distance <= EPSILON || distance <= EPSILON * larger(p0, p1)
+    distance <= f64::EPSILON || distance <= f64::EPSILON * larger(p0, p1)
 }
 
 // Whether two numbers are close, as relative_eq! of the Rust crate approx has it.
+#[tactic(auto, unfolding(crate::specs::Pair::relative_eq))]
 fn relative_eq(p0: f64, p1: f64) -> bool
     ensures { result ≡ relative_eq p0 p1 }
 {
-    if p0 == p1 {
-        return true;
-    }
-    if is_infinite(p0) {
-        return false;
-    }
-    if is_infinite(p1) {
-        return false;
-    }
-    is_near(p0, p1)
+    p0 == p1 || (!(is_infinite(p0) || is_infinite(p1)) && is_near(p0, p1))
 }
 
 // ln(exp(p0) - exp(p1)) of two numbers, p1 at most p0.
+#[tactic(auto, unfolding(crate::specs::Pair::ln_sub))]
 pub fn ln_sub(p0: f64, p1: f64) -> f64
     ensures { result ≡ ln_sub p0 p1 }
 {

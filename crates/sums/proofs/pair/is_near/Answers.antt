@@ -1,4 +1,4 @@
--- `probs::pair::is_near` meets its contract, by its two tests.
+-- `sums::pair::is_near` meets its contract, by its two tests.
 use lib.Ieee.{of_bits}
 use Rattle.sums.specs.Pair.{is_near}
 use Rattle.sums.proofs.pair.is_near.Goals as goal

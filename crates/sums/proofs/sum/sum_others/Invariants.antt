@@ -1,12 +1,10 @@
--- `probs::sum::sum_others` meets its contract. The loop's invariant, `Pass2`: s is the sum over the k entries that it has met.
-use Prim.Native.Nat.{◌-◌}
-use lib.ListN.{length}
-use Rattle.floats.specs.Float.{at}
-use Rattle.sums.proofs.Loops.{Pass2}
+-- `sums::sum::sum_others` meets its contract. The loop's invariant: sum is that over the k terms that it has met.
+use Prim.Native.Nat.{ℕ}
+use mathlib.Core.Path.{◌≡◌}
+use lib.Ieee.{Float}
+use Rattle.sums.specs.Sum.{exp_sum}
+use Rattle.sums.specs.inner.Terms.{TermsAre}
 use Rattle.sums.proofs.sum.sum_others.Given as goal
 
 abbrev pub invariant-loop-k : goal.invariant-loop-k
-invariant-loop-k l = Pass2 (length l.xs) (at l.xs) l.best l.s l.k
-
-abbrev pub decreases-loop-k : goal.decreases-loop-k
-decreases-loop-k l = length l.xs - l.k
+invariant-loop-k g l = (f : ℕ → Float) → TermsAre g.F.Fn l.n l.term f → l.sum ≡ exp_sum l.best l.k f
