@@ -1,3 +1,4 @@
+pub mod Held
 pub mod Emitted
 pub mod Same
 pub mod Bounds

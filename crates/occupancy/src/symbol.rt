@@ -22,18 +22,10 @@ pub fn emission_sums(
     ensures { Holds pass.shape.symbols
         (λ (x : ℕ). emitted (rows_of pass alpha.now beta.now) samples.now i x pass.samples) result }
 {
-    let n = pass.samples;
-    let symbols = pass.shape.symbols;
-    let none = minus_infinity();
-    let mut sums = [none; 256];
-    let mut t = 0;
-    while t < n {
-        let x = samples[t] as usize;
-        sums[x] = ln_add(
-            entry(&sums[..symbols], x),
-            occupancy(pass, alpha, beta, i, t),
-        );
-        t += 1;
+    let mut sums = [minus_infinity(); 256];
+    for (t, x) in samples.iter().enumerate() {
+        let x = *x as usize;
+        sums[x] = ln_add(sums[x], occupancy(pass, alpha, beta, i, t));
     }
     sums
 }
