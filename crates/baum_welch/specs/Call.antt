@@ -10,7 +10,8 @@ use Rattle.answer.specs.declared.Refusal.TheVariants.{ZeroMass}
 use Rattle.model.specs.declared.Shape.{Shape}
 use Rattle.model.specs.Lent.{Lent, S, M, T}
 use Rattle.model.specs.Model.{Model, model_of}
-use Rattle.checks.specs.Rooms.{Room, rooms_of}
+use Rattle.checks.specs.declared.Room.{Room}
+use Rattle.checks.specs.Rooms.{rooms_of}
 use Rattle.checks.specs.Checks.{check}
 use Rattle.occupancy.specs.Occupancy.{Walks, massless}
 use Rattle.baum_welch.specs.Pass.{walks, new_transition, new_emission, new_initial, new_end}

@@ -15,7 +15,8 @@ use Rattle.model.specs.Lent as Memory
 use Rattle.model.specs.Lent.{Tables, Lent, M}
 use Rattle.model.specs.Good.{good, good_end}
 use Rattle.model.specs.Accepted.{AcceptedTables, AcceptedSamples}
-use Rattle.checks.specs.Rooms.{Room, Roomy}
+use Rattle.checks.specs.declared.Room.{Room}
+use Rattle.checks.specs.Rooms.{Roomy}
 use Rattle.checks.specs.Checks.{shape_tests, count_tests, room_tests, table_rooms, entry_tests, is_symbol, sample_tests, tests_of, passage, check}
 use Rattle.checks.specs.LetThrough.{LetThrough}
 use Rattle.checks.proofs.Tests.{needs_none, needs_one, agree, every, no_bad}

@@ -11,7 +11,7 @@ use Rattle.answer.specs.Checks.{first_fault}
 use Rattle.answer.specs.declared.Answer.{Answer}
 use Rattle.answer.proofs.Checks.{Clear, passed, found, fault_stops, fault_goes_on, refuses_too, passes_too}
 use Rattle.model.specs.Lent.{Lent, S, T}
-use Rattle.checks.specs.Rooms.{Room}
+use Rattle.checks.specs.declared.Room.{Room}
 use Rattle.checks.specs.Checks.{shape_tests, count_tests, room_tests, table_rooms, sample_tests, tests_of, passage, check, check_fault}
 use Rattle.checks.specs.inner.Parts.{sizes_of, size_tests, rest_tests}
 use Rattle.checks.proofs.Tests.{in_range_lem}

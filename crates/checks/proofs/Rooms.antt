@@ -11,7 +11,7 @@ use Rattle.std.specs.Prelude.{Result, Ok, Err}
 use Rattle.answer.specs.Checks.{Tests, first_fault}
 use Rattle.answer.specs.declared.Answer.{Answer}
 use Rattle.answer.proofs.Checks.{Refuses, fault_stops, fault_goes_on, unfaulted}
-use Rattle.checks.specs.Rooms.{Room}
+use Rattle.checks.specs.declared.Room.{Room}
 use Rattle.checks.specs.Checks.{unfit_test, room_tests}
 
 pub rooms_refuse : (exact : Bool) (first : ℕ) (os : List Room) → Refuses (room_tests exact first os)

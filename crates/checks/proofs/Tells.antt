@@ -21,7 +21,7 @@ use Rattle.model.specs.declared.Shape.{Shape}
 use Rattle.model.specs.Lent as Memory
 use Rattle.model.specs.Lent.{Tables, Lent, M}
 use Rattle.model.specs.Good.{good, good_end}
-use Rattle.checks.specs.Rooms.{Room}
+use Rattle.checks.specs.declared.Room.{Room}
 use Rattle.checks.specs.Checks.{Slots, shape_tests, count_tests, room_tests, table_rooms, entry_tests, is_symbol, sample_tests, tests_of, passage, unsampled}
 use Rattle.checks.specs.Faults.{fault, OutOfRange, Bad, BadEnd, bad_entry, FaultSlots, faults_of, passage_faults}
 use Rattle.checks.specs.Faults.{shape_faults, count_faults, room_faults, bad_entries, unknown_symbols, unsampled_faults}

@@ -11,7 +11,7 @@ use Rattle.answer.proofs.Checks.{Refuses, refuse_both, Clear, clear, no_fault, c
 use Rattle.answer.proofs.Checks.{passed, found, fault_stops, fault_goes_on, fault_left_out, refuses_too, passes_too}
 use Rattle.model.specs.Lent.{Tables}
 use Rattle.model.specs.Accepted.{InRange}
-use Rattle.checks.specs.Rooms.{Room}
+use Rattle.checks.specs.declared.Room.{Room}
 use Rattle.checks.specs.Checks.{shape_tests, count_tests, room_tests, table_rooms, entry_tests, tests_of, unsampled, check_tables, tables_fault}
 use Rattle.checks.specs.LetThrough.{TablesLetThrough}
 use Rattle.checks.specs.inner.Parts.{sizes_of}

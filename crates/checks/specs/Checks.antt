@@ -8,7 +8,8 @@ use Rattle.answer.specs.declared.Refusal.TheVariants.{BadStates, BadSymbols, Too
 use Rattle.model.specs.declared.Shape.{Shape}
 use Rattle.model.specs.Lent.{Tables, Lent, M, T}
 use Rattle.model.specs.Good.{good, good_end}
-use Rattle.checks.specs.Rooms.{Room, room}
+use Rattle.checks.specs.declared.Room.{Room}
+use Rattle.checks.specs.Rooms.{room}
 
 -- 1 and 2
 unfoldable pub shape_tests : Shape → Tests

@@ -6,7 +6,7 @@ use Rattle.model.specs.declared.Shape.{Shape}
 use Rattle.model.specs.Lent as Lent
 use Rattle.model.specs.Lent.{Tables, Lent, M}
 use Rattle.model.specs.Model.{sample_at}
-use Rattle.checks.specs.Rooms.{Room}
+use Rattle.checks.specs.declared.Room.{Room}
 use Rattle.checks.specs.Checks.{table_rooms}
 
 -- a line: a refusal's number, the table that it names, and the places that it may name, each with what is at fault there

@@ -1,6 +1,6 @@
 -- Lent buffers as their lengths: the places that each needs, and those that it has.
 use Rattle.std.specs.Prelude.{ℕ, ◌≤◌, List, [], ◌∷◌}
-pub use Rattle.checks.specs.declared.Room.{Room}
+use Rattle.checks.specs.declared.Room.{Room}
 
 abbrev pub room : ℕ → ℕ → Room
 room needed lent = record { needed = needed; lent = lent }

@@ -9,6 +9,7 @@ ghost use Rattle.lists.specs.Lists.{some_bad};
 ghost use Rattle.answer.specs.Checks.{first_fault};
 ghost use Rattle.model.specs.Lent.{behind, tables_behind};
 ghost use Rattle.model.specs.Good.{good, good_end};
+ghost use Rattle.checks.specs.Rooms.{room};
 ghost use Rattle.checks.specs.Checks.{shape_tests, count_tests, unfit_test, room_tests, entry_tests, is_symbol, sample_tests};
 ghost use Rattle.checks.specs.inner.Parts.{GoodBlocks, refused_at, sizes_of, size_tests, rest_tests};
 
@@ -23,6 +24,15 @@ const BLOCK: usize = 128;
 pub struct Room {
     pub needed: usize,
     pub lent: usize,
+}
+
+impl Room {
+    // The buffer that needs so many places and has so many.
+    pub fn of(needed: usize, lent: usize) -> Room
+        ensures { result ≡ room needed lent }
+    {
+        Room { needed, lent }
+    }
 }
 
 // Whether a number of states or symbols is 0 or above the most that there may be.
@@ -195,22 +205,10 @@ pub fn check_sizes(
     check_count(needs_sample, samples)?;
     let states = shape.states;
     let rooms = [
-        Room {
-            needed: states * states,
-            lent: transition,
-        },
-        Room {
-            needed: states * shape.symbols,
-            lent: emission,
-        },
-        Room {
-            needed: states,
-            lent: initial,
-        },
-        Room {
-            needed: states,
-            lent: end,
-        },
+        Room::of(states * states, transition),
+        Room::of(states * shape.symbols, emission),
+        Room::of(states, initial),
+        Room::of(states, end),
     ];
     check_rooms(true, 0, &rooms)
 }

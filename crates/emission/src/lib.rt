@@ -6,12 +6,12 @@
 ghost use Rattle.std.specs.Prelude.{◌≡◌, cond, ◌&&◌, ◌+◌, ◌*◌, ◌≤◌, ◌<◌, eqb, ltb, length, set};
 ghost use Rattle.floats.specs.Float.{at, minus_infinity};
 ghost use Rattle.lists.specs.Lists.{tab, over};
-ghost use Rattle.model.specs.Model.{sample_at, emission_of};
-ghost use Rattle.emission.specs.Barring.{barring};
-ghost use Rattle.emission.specs.inner.Row.{Emits, first_row, Beginning};
+ghost use Rattle.model.specs.Lent.{S, behind};
+ghost use Rattle.emission.specs.Barring.{barring_by};
+ghost use Rattle.emission.specs.inner.Row.{Emits, EmitsAt, emissions_of, first_row, Beginning};
 
 use floats::minus_infinity;
-use model::entry;
+use model::{Lent, entry};
 
 // Lays out the emissions of symbol x, state by state.
 #[tactic(auto, using(lists::proofs::Over::over_tab_none, lists::proofs::Over::over_tab_more))]
@@ -27,51 +27,54 @@ fn lay_symbol(emission: &[f64], states: usize, symbols: usize, x: usize, emissio
 
 // Lays out the emissions of the sample at time t, state by state. The caller shows that the table has them, and that there is room. A walk
 // lends the same array for every sample.
-pub fn lay_emissions(
-    emission: &[f64],
-    states: usize,
-    symbols: usize,
-    samples: &[u16],
-    t: usize,
-    emissions: &mut [f64],
-)
-    requires { (t < length samples.now) × Emits states symbols emission.now (sample_at samples.now t) emissions.old }
+pub fn lay_emissions(lent: &Lent, t: usize, emissions: &mut [f64])
+    requires { EmitsAt (behind lent.now) t emissions.old }
     ensures { emissions.new ≡ over 0
-        (tab states (emission_of symbols emission.now samples.now t)) emissions.old }
+        (tab (S (behind lent.now)) (emissions_of (behind lent.now) t)) emissions.old }
 {
-    lay_symbol(emission, states, symbols, samples[t] as usize, emissions);
+    let tables = lent.tables;
+    let shape = tables.shape;
+    lay_symbol(
+        tables.emission,
+        shape.states,
+        shape.symbols,
+        lent.samples[t] as usize,
+        emissions,
+    );
 }
 
-// Bars a state where sample t is the one at which it is barred: its emission is minus infinity then.
-fn bar(states: usize, index: usize, state: usize, t: usize, emissions: &mut [f64])
-    requires { states ≤ length emissions.old }
-    ensures { emissions.new ≡ cond (eqb t index && ltb state states)
-        (set emissions.old state minus_infinity) emissions.old }
-{
-    if t == index && state < states {
-        emissions[state] = minus_infinity();
+// A state that cannot be at one sample.
+#[derive(Clone, Copy)]
+pub struct Bar {
+    pub index: usize,
+    pub state: usize,
+}
+
+impl Bar {
+    // Bars the state where sample t is the one at which it is barred: its emission is minus infinity then.
+    fn lay(self, states: usize, t: usize, emissions: &mut [f64])
+        requires { states ≤ length emissions.old }
+        ensures { emissions.new ≡ cond (eqb t self.index && ltb self.state states)
+            (set emissions.old self.state minus_infinity) emissions.old }
+    {
+        if t == self.index && self.state < states {
+            emissions[self.state] = minus_infinity();
+        }
     }
 }
 
-// The same, of a model in which `state` is barred at the sample `index`. With an index past the last sample nothing is barred.
+// The same as `lay_emissions`, of a model in which a state is barred, or none.
 #[tactic(auto, using(crate::proofs::Barring::bar_laid))]
-pub fn lay_barred(
-    emission: &[f64],
-    states: usize,
-    symbols: usize,
-    samples: &[u16],
-    index: usize,
-    state: usize,
-    t: usize,
-    emissions: &mut [f64],
-)
-    requires { (t < length samples.now) × Emits states symbols emission.now (sample_at samples.now t) emissions.old }
+pub fn lay_barred(lent: &Lent, bar: Option<Bar>, t: usize, emissions: &mut [f64])
+    requires { EmitsAt (behind lent.now) t emissions.old }
     ensures { emissions.new ≡ over 0
-        (tab states (barring index state (emission_of symbols emission.now samples.now) t))
+        (tab (S (behind lent.now)) (barring_by bar (emissions_of (behind lent.now)) t))
         emissions.old }
 {
-    lay_emissions(emission, states, symbols, samples, t, emissions);
-    bar(states, index, state, t, emissions);
+    lay_emissions(lent, t, emissions);
+    if let Some(bar) = bar {
+        bar.lay(lent.tables.shape.states, t, emissions);
+    }
 }
 
 // The first row of the values: initial + emission, where these are the emissions of the first sample. The caller shows that there is one

@@ -8,7 +8,8 @@ use Rattle.answer.specs.declared.Answer.{Answer}
 use Rattle.answer.specs.declared.Refusal.TheVariants.{NotGood, BadLayout, BadSum}
 use Rattle.model.specs.declared.Shape.{Shape}
 use Rattle.model.specs.Good.{good_bits}
-use Rattle.checks.specs.Rooms.{Room, room}
+use Rattle.checks.specs.declared.Room.{Room}
+use Rattle.checks.specs.Rooms.{room}
 use Rattle.checks.specs.Checks.{shape_tests, room_tests}
 use Rattle.file_layout.specs.Layout.{count, size, file_length, first, label}
 use Rattle.file_layout.specs.Reading.{shape_of, body_of, sum_of}

@@ -6,7 +6,8 @@ use Rattle.lists.specs.Lists.{first_bad, over}
 use Rattle.answer.specs.Answer.{done, is_done}
 use Rattle.answer.specs.Checks.{Tests, first_of}
 use Rattle.answer.proofs.Checks.{Clear, Refuses, refuse_both, clear, clear_left, clear_right, goes_on, passed_by, refused_by}
-use Rattle.checks.specs.Rooms.{Room, room, Roomy}
+use Rattle.checks.specs.declared.Room.{Room}
+use Rattle.checks.specs.Rooms.{room, Roomy}
 use Rattle.checks.specs.Checks.{room_tests}
 use Rattle.checks.proofs.Rooms.{rooms_refuse}
 use Rattle.checks.proofs.Done.{is_roomy}

@@ -19,7 +19,8 @@ use Rattle.answer.specs.declared.Answer.{Answer}
 use Rattle.answer.specs.declared.Refusal.TheVariants.{ZeroMass, NoRival, BadIndex}
 use Rattle.model.specs.Lent.{Tables, Lent, S, M, T}
 use Rattle.model.specs.Model.{Model, model_of}
-use Rattle.checks.specs.Rooms.{Room, room}
+use Rattle.checks.specs.declared.Room.{Room}
+use Rattle.checks.specs.Rooms.{room}
 use Rattle.checks.specs.Checks.{table_rooms, tests_of, passage, check, unsampled}
 use Rattle.checks.specs.Faults.{Fault, fault, shape_faults, count_faults, room_faults, bad_entries, unknown_symbols, check_faults, Some}
 use Rattle.checks.specs.Faults.{faults_of, unsampled_faults}

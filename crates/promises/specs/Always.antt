@@ -7,7 +7,8 @@ use Rattle.answer.specs.Answer.{is_done}
 use Rattle.answer.specs.declared.Answer.{Answer}
 use Rattle.model.specs.Lent.{Tables, Lent, S, T}
 use Rattle.model.specs.Model.{Model, model_of}
-use Rattle.checks.specs.Rooms.{Room, room}
+use Rattle.checks.specs.declared.Room.{Room}
+use Rattle.checks.specs.Rooms.{room}
 use Rattle.checks.specs.Faults.{Fault, fault, faults_of, check_faults, unsampled_faults, bad_entries, Some, Faultless}
 use Rattle.checks.specs.Exactly.{Exactly}
 use Rattle.viterbi.specs.Call as Viterbi

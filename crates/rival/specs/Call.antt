@@ -8,7 +8,8 @@ use Rattle.answer.specs.declared.Answer.{Answer}
 use Rattle.answer.specs.declared.Refusal.TheVariants.{NoRival, BadIndex}
 use Rattle.model.specs.Lent.{Lent, S, T}
 use Rattle.model.specs.Model.{Model, model_of}
-use Rattle.checks.specs.Rooms.{Room, room}
+use Rattle.checks.specs.declared.Room.{Room}
+use Rattle.checks.specs.Rooms.{room}
 use Rattle.checks.specs.Checks.{tests_of, passage}
 use Rattle.best_path.specs.Walk.{value, from, best_path, best_value}
 use Rattle.best_path.specs.Score.{state_at}

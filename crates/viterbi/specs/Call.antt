@@ -5,7 +5,8 @@ use Rattle.answer.specs.Answer.{is_done, answered}
 use Rattle.answer.specs.declared.Answer.{Answer}
 use Rattle.model.specs.Lent.{Lent, S, T}
 use Rattle.model.specs.Model.{model_of}
-use Rattle.checks.specs.Rooms.{Room, room}
+use Rattle.checks.specs.declared.Room.{Room}
+use Rattle.checks.specs.Rooms.{room}
 use Rattle.checks.specs.Checks.{check}
 use Rattle.best_path.specs.Walk.{value, from, best_path, best_value}
 

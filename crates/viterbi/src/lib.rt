@@ -3,101 +3,46 @@
 #![tactic(auto)]
 
 ghost use Rattle.std.specs.Prelude.{◌≡◌};
-ghost use Rattle.model.specs.Lent.{lent};
+ghost use Rattle.model.specs.Lent.{behind};
 ghost use Rattle.viterbi.specs.Call.{Decoded, outputs};
-ghost use Rattle.viterbi.specs.inner.Parts.{checked_for};
+ghost use Rattle.viterbi.specs.inner.Parts.{fault_for};
 
-use answer::{Answer, done, is_done};
-use checks::{check_rest, check_sizes};
+use answer::{Answer, Checked, done};
+use checks::{Room, check_lengths, check_rest};
 use floats::minus_infinity;
-use model::Shape;
+use model::Lent;
 use walk::decode;
 
 // The checks 1 to 8, in their order; of the outputs only the lengths are needed.
-fn check(
-    shape: Shape,
-    transition: &[f64],
-    emission: &[f64],
-    initial: &[f64],
-    end: &[f64],
-    samples: &[u16],
-    path: usize,
-    values: usize,
-    from: usize,
-) -> Answer
-    ensures { result ≡ checked_for
-        (lent shape transition.now emission.now initial.now end.now samples.now)
-        path values from }
+fn check(lent: &Lent, path: usize, values: usize, from: usize) -> Checked
+    ensures { result ≡ fault_for (behind lent.now) path values from }
 {
-    let n = samples.len();
-    let sizes = check_sizes(
-        false,
-        shape,
-        transition.len(),
-        emission.len(),
-        initial.len(),
-        end.len(),
-        n,
-    );
-    if !is_done(sizes) {
-        return sizes;
-    }
-    let places = n * shape.states;
-    let needed = [n, places, places];
-    let lent = [path, values, from];
-    check_rest(
-        shape, transition, emission, initial, end, samples, &needed, &lent,
-    )
+    check_lengths(false, lent)?;
+    let n = lent.samples.len();
+    let places = n * lent.tables.shape.states;
+    let outputs = [
+        Room::of(n, path),
+        Room::of(places, values),
+        Room::of(places, from),
+    ];
+    check_rest(lent, &outputs)
 }
 
 // The best path through the model for these samples: its states in `path`, its value in the answer, and the value and the
-// predecessor of every state at every sample in `values` and `from`, T rows of S. No state is barred at any of the T samples. Without a
-// sample the answer is minus infinity, and nothing is written. Refused, nothing is written either.
-pub fn viterbi(
-    shape: Shape,
-    transition: &[f64],
-    emission: &[f64],
-    initial: &[f64],
-    end: &[f64],
-    samples: &[u16],
-    path: &mut [u8],
-    values: &mut [f64],
-    from: &mut [u8],
-) -> Answer
+// predecessor of every state at every sample in `values` and `from`, T rows of S. Without a sample the answer is minus infinity, and
+// nothing is written. Refused, nothing is written either.
+pub fn viterbi(lent: &Lent, path: &mut [u8], values: &mut [f64], from: &mut [u8]) -> Answer
     ensures { Decoded
-        (lent shape transition.now emission.now initial.now end.now samples.now)
+        (behind lent.now)
         (outputs path.old values.old from.old)
         result
         (outputs path.new values.new from.new) }
 {
-    let checked = check(
-        shape,
-        transition,
-        emission,
-        initial,
-        end,
-        samples,
-        path.len(),
-        values.len(),
-        from.len(),
-    );
-    if !is_done(checked) {
-        return checked;
+    if let Err(refusal) = check(lent, path.len(), values.len(), from.len()) {
+        return refusal;
     }
-    if samples.len() == 0 {
+    if lent.samples.is_empty() {
         return done(minus_infinity());
     }
-    done(decode(
-        shape,
-        transition,
-        emission,
-        initial,
-        end,
-        samples,
-        samples.len(),
-        0,
-        path,
-        values,
-        from,
-    ))
+    done(decode(lent, None, path, values, from))
 }

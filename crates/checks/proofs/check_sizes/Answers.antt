@@ -30,18 +30,18 @@ returns-in_err-check_count c =
     let p = err_from_is_err_and c.from_residual-in_err-check_count.result c.from_residual-in_err-check_count.ensures.1 in
     rw (p.1, p.2) (fault_goes_on _ _ _ _ (sym c.in_ok-check_shape.ensures) (fault_stops _ _ _ (sym c.in_err-check_count.ensures)))
 
-pub overflow_mul-rooms : goal.overflow_mul-rooms
-overflow_mul-rooms c =
+pub overflow_mul-states : goal.overflow_mul-states
+overflow_mul-states c =
     let h = few_states_lem _ (passed _ _ (sym c.in_ok-check_shape.ensures)) in
     omega (arith, mul-le-mul h h)
 
-pub overflow_mul-rooms-2 : goal.overflow_mul-rooms-2
-overflow_mul-rooms-2 c =
+pub overflow_mul-states-2 : goal.overflow_mul-states-2
+overflow_mul-states-2 c =
     let k = passed _ _ (sym c.in_ok-check_shape.ensures) in
     omega (arith, mul-le-mul (few_states_lem _ k) (few_symbols_lem _ k))
 
 pub returns : goal.returns
 unfolding sizes_of
 returns c =
-    fault_goes_on _ _ _ _ (sym c.in_ok-check_shape.ensures)
-    (fault_goes_on _ _ _ _ (sym c.in_ok-check_count.ensures) c.check_rooms.ensures)
+    let rooms = rw (c.of.ensures, c.of-2.ensures, c.of-3.ensures, c.of-4.ensures) at c.check_rooms.ensures in
+    fault_goes_on _ _ _ _ (sym c.in_ok-check_shape.ensures) (fault_goes_on _ _ _ _ (sym c.in_ok-check_count.ensures) rooms)

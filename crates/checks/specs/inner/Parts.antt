@@ -9,7 +9,8 @@ use Rattle.model.specs.Good.{good}
 use Rattle.model.specs.declared.Shape.{Shape}
 use Rattle.model.specs.Lent as Lent
 use Rattle.model.specs.Lent.{Lent, M}
-use Rattle.checks.specs.Rooms.{Room, room}
+use Rattle.checks.specs.declared.Room.{Room}
+use Rattle.checks.specs.Rooms.{room}
 use Rattle.checks.specs.Checks.{shape_tests, count_tests, room_tests, entry_tests, sample_tests}
 
 -- so many whole blocks of 128 entries are within the list, and its first bad entry is that of the entries after them

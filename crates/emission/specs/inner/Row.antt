@@ -2,13 +2,22 @@
 use Rattle.std.specs.Prelude.{ℕ, ◌*◌, ◌≤◌, ◌<◌, ◌≡◌, List, length, Float}
 use Rattle.floats.specs.Float.{◌⊕◌, at}
 use Rattle.lists.specs.Lists.{tab}
-use Rattle.model.specs.Model.{sample_at}
+use Rattle.model.specs.Lent.{Lent, S, M, T}
+use Rattle.model.specs.Model.{sample_at, emission_of}
 
 -- an emission table of S states by M symbols has an emission of symbol x for each state, and there is room for them
 pub record Emits (S M : ℕ) (emission : List Float) (x : ℕ) (emissions : List Float) : Type 0 where
   pub emission_length : length emission ≡ S * M
   pub symbol : x < M
   pub emissions_room : S ≤ length emissions
+
+-- what a call is lent has the emissions of the sample at time t, and there is room for them
+abbrev pub EmitsAt : Lent → ℕ → List Float → Type 0
+EmitsAt l t emissions = (t < T l) × Emits (S l) (M l) l.tables.emission (sample_at l.samples t) emissions
+
+-- the emissions of what a call is lent, by time and state
+abbrev pub emissions_of : Lent → ℕ → ℕ → Float
+emissions_of l = emission_of (M l) l.tables.emission l.samples
 
 -- what emissions by symbols ask of all samples: the table fits, and every sample is a symbol
 pub record Symbols (S M : ℕ) (emission : List Float) (samples : List ℕ) : Type 0 where

@@ -7,11 +7,11 @@ use lib.ListN.{length}
 use Rattle.lists.specs.Lists.{over}
 use Rattle.lists.proofs.Over.{length_tab}
 use Rattle.lists.proofs.Places.{last_room}
-use Rattle.model.specs.Lent.{lent, S}
+use Rattle.model.specs.Lent.{S, T, behind}
 use Rattle.model.specs.Model.{model_of}
 use Rattle.best_path.proofs.States.{last_below_lem}
 use Rattle.best_path.proofs.Found.{last_row, last_found, value_found, from_is_state, path_found}
-use Rattle.walk.specs.Barred.{barred}
+use Rattle.walk.specs.Barred.{barred_by}
 use Rattle.walk.proofs.decode.Goals as goal
 
 pub overflow_mul-start : goal.overflow_mul-start
@@ -28,9 +28,9 @@ slice_bounds-row-end c = omega (arith, last_room _ _ _ c.requires.some_sample c.
 
 pub last_state-last-requires : goal.last_state-last-requires
 last_state-last-requires c = let a = c.args in
-    let g = lent a.shape a.transition.now a.emission.now a.initial.now a.end.now a.samples.now in
-    let m = barred a.index a.state (model_of g) in
-    let n = length a.samples.now in
+    let g = behind a.lent.now in
+    let m = barred_by a.bar (model_of g) in
+    let n = T g in
     let some = c.requires.walkable.some_state in
     let sample = c.requires.some_sample in
     let stored = c.rows.ensures m.ends m.end in
@@ -39,9 +39,9 @@ last_state-last-requires c = let a = c.args in
 
 pub trace-requires : goal.trace-requires
 trace-requires c = let a = c.args in
-    let g = lent a.shape a.transition.now a.emission.now a.initial.now a.end.now a.samples.now in
-    let m = barred a.index a.state (model_of g) in
-    let n = length a.samples.now in
+    let g = behind a.lent.now in
+    let m = barred_by a.bar (model_of g) in
+    let n = T g in
     let some = c.requires.walkable.some_state in
     let sample = c.requires.some_sample in
     let stored = c.rows.ensures m.ends m.end in
@@ -60,9 +60,9 @@ trace-requires c = let a = c.args in
 
 pub close-requires : goal.close-requires
 close-requires c = let a = c.args in
-    let g = lent a.shape a.transition.now a.emission.now a.initial.now a.end.now a.samples.now in
-    let m = barred a.index a.state (model_of g) in
-    let n = length a.samples.now in
+    let g = behind a.lent.now in
+    let m = barred_by a.bar (model_of g) in
+    let n = T g in
     let some = c.requires.walkable.some_state in
     let sample = c.requires.some_sample in
     let stored = c.rows.ensures m.ends m.end in
@@ -73,9 +73,9 @@ close-requires c = let a = c.args in
 
 pub returns : goal.returns
 returns c = let a = c.args in
-    let g = lent a.shape a.transition.now a.emission.now a.initial.now a.end.now a.samples.now in
-    let m = barred a.index a.state (model_of g) in
-    let n = length a.samples.now in
+    let g = behind a.lent.now in
+    let m = barred_by a.bar (model_of g) in
+    let n = T g in
     let some = c.requires.walkable.some_state in
     let sample = c.requires.some_sample in
     let stored = c.rows.ensures m.ends m.end in

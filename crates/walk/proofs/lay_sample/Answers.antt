@@ -1,10 +1,10 @@
 -- `walk::lay_sample` meets its contract: the row is worked out from the emissions of its sample, as they are laid out.
-use mathlib.Core.Path.{sym, ap, ◌∙◌}
-use lib.ListN.{length}
+use Rattle.std.proofs.Common.{sym, ap, ◌∙◌, length}
 use Rattle.lists.proofs.Laid.{front}
 use Rattle.lists.proofs.Over.{length_tab}
-use Rattle.model.specs.Model.{emission_of}
-use Rattle.emission.specs.Barring.{barring}
+use Rattle.model.specs.Lent.{behind}
+use Rattle.emission.specs.Barring.{barring_by}
+use Rattle.emission.specs.inner.Row.{emissions_of}
 use Rattle.walk.proofs.lay_sample.Goals as goal
 
 pub lay_barred-requires : goal.lay_barred-requires
@@ -35,6 +35,6 @@ lay_row-requires c = let p = c.requires.placed in
     }
 
 pub returns : goal.returns
-returns c ends end before = let a = c.args in
-    let emission = barring a.index a.state (emission_of a.symbols a.emission.now a.samples.now) in
+returns c ends end before =
+    let emission = barring_by c.args.bar (emissions_of (behind c.args.lent.now)) in
     c.lay_row.ensures emission ends end (front _ _ _ _ c.lay_barred.ensures) before

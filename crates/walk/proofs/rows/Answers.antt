@@ -11,8 +11,10 @@ use Rattle.lists.proofs.Over.{length_tab}
 use Rattle.lists.proofs.Places.{row_room, next_at}
 use Rattle.lists.proofs.Rows.{row_in}
 use Rattle.lists.proofs.Whole.{Whole, whole_none, whole_more, whole_done}
-use Rattle.model.specs.Model.{Model, emission_of, tabled}
-use Rattle.emission.specs.Barring.{barring}
+use Rattle.model.specs.Lent.{S, T, behind}
+use Rattle.model.specs.Model.{Model, tabled}
+use Rattle.emission.specs.Barring.{barring_by}
+use Rattle.emission.specs.inner.Row.{emissions_of}
 use Rattle.best_path.specs.Walk as Walk
 use Rattle.best_path.specs.inner.Row.{StandsBefore}
 use Rattle.walk.proofs.rows.Goals as goal
@@ -29,13 +31,12 @@ loop-t-init c = (sym (zero-mul _), sym (zero-mul _), refl, refl, refl, λ ends e
 
 pub lay_sample-requires : goal.lay_sample-requires
 lay_sample-requires c = let l = c.loop-t in
-    let states = c.args.states in
-    let n = length c.args.samples.now in
+    let g = behind c.args.lent.now in
     let p = c.requires.walkable in
-    let room = row_room l.t n states c.loop-t-test.true in
-    let before = row_room (l.t - 1) n states (omega arith) in record {
+    let room = row_room l.t (T g) (S g) c.loop-t-test.true in
+    let before = row_room (l.t - 1) (T g) (S g) (omega arith) in record {
       seen = record {
-        symbolic = c.requires.symbols;
+        symbolic = c.requires.symbolic;
         within = c.loop-t-test.true;
         emissions_room = omega (arith, p.few_states, l.invariant.2);
       };
@@ -44,7 +45,7 @@ lay_sample-requires c = let l = c.loop-t in
         few_states = p.few_states;
         transition_length = p.transition_length;
         initial_length = p.initial_length;
-        first_at_front = λ z. l.invariant.0 ∙ ap (λ (k : ℕ). k * states) z ∙ zero-mul states;
+        first_at_front = λ z. l.invariant.0 ∙ ap (λ (k : ℕ). k * S g) z ∙ zero-mul (S g);
         source_room = omega (arith, before, p.values_room, l.invariant.1, l.invariant.3);
         values_room = omega (arith, room, p.values_room, l.invariant.0, l.invariant.3);
         from_room = omega (arith, room, p.from_room, l.invariant.0, l.invariant.4);
@@ -53,22 +54,22 @@ lay_sample-requires c = let l = c.loop-t in
 
 pub overflow_add-target : goal.overflow_add-target
 overflow_add-target c = let l = c.loop-t in
-    let room = row_room l.t (length c.args.samples.now) c.args.states c.loop-t-test.true in
-    omega (arith, room, c.requires.walkable.values_room, l.invariant.0)
+    let g = behind c.args.lent.now in
+    omega (arith, row_room l.t (T g) (S g) c.loop-t-test.true, c.requires.walkable.values_room, l.invariant.0)
 
 pub loop-t-preserved : goal.loop-t-preserved
 loop-t-preserved c = let l = c.loop-t in
-    let a = c.args in
+    let g = behind c.args.lent.now in
     let more = c.loop-t-test.true in
     let same : l.t ≡ l.t + 1 - 1 = omega arith in (
-      next_at l.t a.states l.target l.invariant.0,
-      l.invariant.0 ∙ ap (λ (k : ℕ). k * a.states) same,
+      next_at l.t (S g) l.target l.invariant.0,
+      l.invariant.0 ∙ ap (λ (k : ℕ). k * S g) same,
       c.lay_sample.auto.emissions ∙ l.invariant.2,
       c.lay_sample.auto.values ∙ l.invariant.3,
       c.lay_sample.auto.from ∙ l.invariant.4,
       λ (ends : Bool) (end : ℕ → Float).
           let whole = l.invariant.5 ends end in
-          let m = tabled a.states a.transition.now a.initial.now (barring a.index a.state (emission_of a.symbols a.emission.now a.samples.now)) ends end in
+          let m = tabled (S g) g.tables.transition g.tables.initial (barring_by c.args.bar (emissions_of g)) ends end in
           let laid = c.lay_sample.ensures ends end (stands m l.t _ l.source _ l.values l.target l.invariant.1 whole.0) in (
             whole_more _ _ _ _ c.requires.walkable.values_room _ _ _ _ _ whole.0 more refl laid.values_stored,
             whole_more _ _ _ _ c.requires.walkable.from_room _ _ _ _ _ whole.1 more refl laid.from_stored,

@@ -1,8 +1,11 @@
 -- What a row in memory is, over any model, and what laying one of them by its sample, or all, asks.
-use Rattle.std.specs.Prelude.{ℕ, ◌+◌, ◌*◌, ◌≤◌, ◌<◌, ◌≡◌, Bool, List, length, Float}
+use Rattle.std.specs.Prelude.{ℕ, ◌+◌, ◌*◌, ◌≤◌, ◌<◌, ◌≡◌, Bool, List, length, Float, Option}
 use Rattle.lists.specs.Lists.{tab, table}
+use Rattle.model.specs.Lent.{Lent, S, M, T}
 use Rattle.model.specs.Model.{Model, tabled}
-use Rattle.emission.specs.inner.Row.{Symbols}
+use Rattle.emission.specs.declared.Bar.{Bar}
+use Rattle.emission.specs.Barring.{barring_by}
+use Rattle.emission.specs.inner.Row.{Symbols, emissions_of}
 use Rattle.best_path.specs.Walk.{value, from}
 use Rattle.best_path.specs.inner.Step.{Stored}
 use Rattle.best_path.specs.inner.Row.{StandsBefore}
@@ -47,3 +50,22 @@ Filled m n = Stored 0 (table n m.states (value m)) (table n m.states (from m))
 abbrev pub RowsStored : ℕ → List Float → List Float → (ℕ → ℕ → Float) → ℕ → List Float → List Float → List ℕ → List ℕ → Type 0
 RowsStored states transition initial emission n values values' from₀ from' =
     (ends : Bool) (end : ℕ → Float) → Filled (tabled states transition initial emission ends end) n values values' from₀ from'
+
+-- ---- the same of what a call is lent
+module _ (l : Lent) where
+  abbrev pub SeenAt : ℕ → List Float → Type 0
+  SeenAt = Seen (S l) (M l) l.tables.emission l.samples
+
+  abbrev pub PlacedAt : ℕ → ℕ → ℕ → List Float → List ℕ → Type 0
+  PlacedAt = Placed (S l) l.tables.transition l.tables.initial
+
+  abbrev pub RowLaid : Option Bar → ℕ → ℕ → ℕ → List Float → List Float → List ℕ → List ℕ → Type 0
+  RowLaid bar = SampleStored (S l) l.tables.transition l.tables.initial (barring_by bar (emissions_of l))
+
+  -- what laying all rows asks
+  pub record AllWalkable (values : List Float) (from : List ℕ) : Type 0 where
+    pub walkable : Walkable (S l) (T l) l.tables.transition l.tables.initial values from
+    pub symbolic : Symbols (S l) (M l) l.tables.emission l.samples
+
+  abbrev pub RowsLaid : Option Bar → List Float → List Float → List ℕ → List ℕ → Type 0
+  RowsLaid bar = RowsStored (S l) l.tables.transition l.tables.initial (barring_by bar (emissions_of l)) (T l)
