@@ -8,19 +8,19 @@
 
 ghost use Rattle.std.specs.Prelude.{◌≡◌, Bool, false, true, ℕ, ◌*◌, ◌+◌, ◌<◌, ◌≤◌, length, Float};
 ghost use Rattle.sums.specs.inner.Open.{opened};
-ghost use Rattle.model.specs.Lent.{lent};
-ghost use Rattle.likelihood.specs.Call.{checked, Forward, Backward};
+ghost use Rattle.model.specs.Lent.{T, behind};
+ghost use Rattle.model.specs.Model.{model_of};
+ghost use Rattle.likelihood.specs.Call.{Forward, Backward};
 ghost use Rattle.likelihood.specs.inner.Sum.{last_sum, Closing};
 ghost use Rattle.likelihood.specs.inner.Row.{Starting, Begun, cell_term, Fitting, Opened, Stepped};
-ghost use Rattle.emission.specs.inner.Row.{Symbols};
-ghost use Rattle.likelihood.specs.inner.Walk.{symbolic, Walkable, time_of, Filled, Valued};
-ghost use Rattle.likelihood.specs.inner.Call.{Answered};
+ghost use Rattle.likelihood.specs.inner.Walk.{Ready, time_of, Filled, Valued};
+ghost use Rattle.likelihood.specs.inner.Call.{Answered, fault_for};
 
-use answer::{Answer, done, is_done};
-use checks::{check_rest, check_sizes};
+use answer::{Answer, Checked, done};
+use checks::{Room, check_lengths, check_rest};
 use emission::{first_row, lay_emissions};
 use floats::minus_infinity;
-use model::{Shape, entry};
+use model::{Lent, entry};
 use sums::sum::{Open, close_sum, open_sum};
 
 // The sum of n terms, before its logarithm is taken: that of f 0, f 1, .., where f is any rule that gives what `term` does.
@@ -169,170 +169,82 @@ fn next_row<W: Way>(
 }
 
 // All rows.
-fn walk<W: Way>(
-    shape: Shape,
-    transition: &[f64],
-    emission: &[f64],
-    initial: &[f64],
-    end: &[f64],
-    samples: &[u16],
-    values: &mut [f64],
-)
-    requires walkable { Walkable shape.states (length samples.now) transition.now initial.now end.now values.old }
-    requires symbols { Symbols shape.states shape.symbols emission.now samples.now }
-    ensures { Filled W.BACK
-        (symbolic shape transition.now emission.now initial.now end.now samples.now)
-        (length samples.now)
-        values.old values.new }
+fn walk<W: Way>(lent: &Lent, values: &mut [f64])
+    requires { Ready (behind lent.now) values.old }
+    ensures { Filled W.BACK (model_of (behind lent.now)) (T (behind lent.now)) values.old values.new }
 {
-    let states = shape.states;
+    let tables = lent.tables;
+    let states = tables.shape.states;
+    let n = lent.samples.len();
     let mut emissions = [0.0; 64];
-    lay_emissions(emission, states, shape.symbols, samples, 0, &mut emissions);
-    W::begin(initial, end, &emissions[..states], values);
-    for i in 0..samples.len() - 1 {
-        lay_emissions(
-            emission,
+    lay_emissions(lent, 0, &mut emissions);
+    W::begin(tables.initial, tables.end, &emissions[..states], values);
+    for i in 0..n - 1 {
+        lay_emissions(lent, W::time_of(n, i), &mut emissions);
+        next_row::<W>(
+            values,
+            i * states,
+            tables.transition,
+            &emissions[..states],
             states,
-            shape.symbols,
-            samples,
-            W::time_of(samples.len(), i),
-            &mut emissions,
         );
-        next_row::<W>(values, i * states, transition, &emissions[..states], states);
     }
 }
 
 // All rows, and the value of the walk.
-fn value_of<W: Way>(
-    shape: Shape,
-    transition: &[f64],
-    emission: &[f64],
-    initial: &[f64],
-    end: &[f64],
-    samples: &[u16],
-    values: &mut [f64],
-) -> f64
-    requires walkable { Walkable shape.states (length samples.now) transition.now initial.now end.now values.old }
-    requires symbols { Symbols shape.states shape.symbols emission.now samples.now }
-    ensures { Valued W.BACK
-        (symbolic shape transition.now emission.now initial.now end.now samples.now)
-        (length samples.now)
-        values.old result values.new }
+fn value_of<W: Way>(lent: &Lent, values: &mut [f64]) -> f64
+    requires { Ready (behind lent.now) values.old }
+    ensures { Valued W.BACK (model_of (behind lent.now)) (T (behind lent.now)) values.old result values.new }
 {
-    walk::<W>(shape, transition, emission, initial, end, samples, values);
-    let states = shape.states;
+    walk::<W>(lent, values);
+    let tables = lent.tables;
+    let states = tables.shape.states;
     let mut emissions = [0.0; 64];
-    lay_emissions(emission, states, shape.symbols, samples, 0, &mut emissions);
-    let at = (samples.len() - 1) * states;
+    lay_emissions(lent, 0, &mut emissions);
+    let at = (lent.samples.len() - 1) * states;
     let to = at + states;
-    W::last_sum(&values[at..to], initial, end, &emissions[..states])
-}
-
-// The checks of either walk: values is the length of output 5.
-fn check(
-    needs_sample: bool,
-    shape: Shape,
-    transition: &[f64],
-    emission: &[f64],
-    initial: &[f64],
-    end: &[f64],
-    samples: &[u16],
-    values: usize,
-) -> Answer
-    ensures { result ≡ checked needs_sample
-        (lent shape transition.now emission.now initial.now end.now samples.now)
-        values }
-{
-    let sizes = check_sizes(
-        needs_sample,
-        shape,
-        transition.len(),
-        emission.len(),
-        initial.len(),
-        end.len(),
-        samples.len(),
-    );
-    if !is_done(sizes) {
-        return sizes;
-    }
-    let places = samples.len() * shape.states;
-    check_rest(
-        shape,
-        transition,
-        emission,
-        initial,
-        end,
-        samples,
-        &[places],
-        &[values],
+    W::last_sum(
+        &values[at..to],
+        tables.initial,
+        tables.end,
+        &emissions[..states],
     )
 }
 
-// The answer of either walk. Of no samples, which the checks of the backward walk alone let through, it is minus infinity.
-fn answer_of<W: Way>(
-    shape: Shape,
-    transition: &[f64],
-    emission: &[f64],
-    initial: &[f64],
-    end: &[f64],
-    samples: &[u16],
-    values: &mut [f64],
-) -> Answer
-    ensures { Answered W.BACK
-        (lent shape transition.now emission.now initial.now end.now samples.now)
-        values.old result values.new }
+// The checks of either walk: values is the length of output 5.
+fn check(needs_sample: bool, lent: &Lent, values: usize) -> Checked
+    ensures { result ≡ fault_for needs_sample (behind lent.now) values }
 {
-    let checked = check(
-        !W::BACK,
-        shape,
-        transition,
-        emission,
-        initial,
-        end,
-        samples,
-        values.len(),
-    );
-    if !is_done(checked) {
-        return checked;
+    check_lengths(needs_sample, lent)?;
+    let places = lent.samples.len() * lent.tables.shape.states;
+    check_rest(lent, &[Room::of(places, values)])
+}
+
+// The answer of either walk. Of no samples, which the checks of the backward walk alone let through, it is minus infinity.
+fn answer_of<W: Way>(lent: &Lent, values: &mut [f64]) -> Answer
+    ensures { Answered W.BACK (behind lent.now) values.old result values.new }
+{
+    if let Err(refusal) = check(!W::BACK, lent, values.len()) {
+        return refusal;
     }
-    if samples.is_empty() {
+    if lent.samples.is_empty() {
         return done(minus_infinity());
     }
-    done(value_of::<W>(shape, transition, emission, initial, end, samples, values))
+    done(value_of::<W>(lent, values))
 }
 
 // The likelihood of the samples, by the forward walk. Row t of the values becomes alpha at sample t, a state a place, and their surplus
 // stays; the answer is the sum of the last row + end. No samples are refused.
-pub fn forward(
-    shape: Shape,
-    transition: &[f64],
-    emission: &[f64],
-    initial: &[f64],
-    end: &[f64],
-    samples: &[u16],
-    values: &mut [f64],
-) -> Answer
-    ensures { Forward
-        (lent shape transition.now emission.now initial.now end.now samples.now)
-        values.old result values.new }
+pub fn forward(lent: &Lent, values: &mut [f64]) -> Answer
+    ensures { Forward (behind lent.now) values.old result values.new }
 {
-    answer_of::<Alpha>(shape, transition, emission, initial, end, samples, values)
+    answer_of::<Alpha>(lent, values)
 }
 
 // The likelihood of the samples, by the backward walk. Row i of the values becomes beta at sample T-1-i, a state a place, and their
 // surplus stays; the answer is the sum of (last row + initial) + the first sample's emissions. Of no samples it is minus infinity.
-pub fn backward(
-    shape: Shape,
-    transition: &[f64],
-    emission: &[f64],
-    initial: &[f64],
-    end: &[f64],
-    samples: &[u16],
-    values: &mut [f64],
-) -> Answer
-    ensures { Backward
-        (lent shape transition.now emission.now initial.now end.now samples.now)
-        values.old result values.new }
+pub fn backward(lent: &Lent, values: &mut [f64]) -> Answer
+    ensures { Backward (behind lent.now) values.old result values.new }
 {
-    answer_of::<Beta>(shape, transition, emission, initial, end, samples, values)
+    answer_of::<Beta>(lent, values)
 }

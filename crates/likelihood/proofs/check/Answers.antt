@@ -1,25 +1,19 @@
 -- `likelihood::check` meets its contract: both parts of the checks, the second where the first found no fault.
 use Rattle.std.proofs.Common.{arith}
-use Rattle.model.specs.Lent.{lent}
-use Rattle.checks.proofs.Parts.{sizes_passed, sizes_refused, few_places, rest_answers}
+use Rattle.std.proofs.lemmas.Result.{err_from_is_err_and}
+use Rattle.model.specs.Lent.{behind}
+use Rattle.checks.proofs.Parts.{few_places, sizes_stop, rest_goes_on}
 use Rattle.likelihood.proofs.check.Goals as goal
 
-pub returns-then-not-is_done : goal.returns-then-not-is_done
-returns-then-not-is_done c =
-    let a = c.args in
-    let l = lent a.shape a.transition.now a.emission.now a.initial.now a.end.now a.samples.now in
-    sizes_refused a.needs_sample l _ _ _ c.is_done.ensures c.check_sizes-sizes.ensures c.if-not-is_done.true
+pub returns-in_err-check_lengths : goal.returns-in_err-check_lengths
+returns-in_err-check_lengths c =
+    let p = err_from_is_err_and c.from_residual.result c.from_residual.ensures.1 in
+    rw (p.1, p.2) (sizes_stop c.args.needs_sample (behind c.args.lent.now) _ c.in_err-check_lengths.ensures)
 
 pub overflow_mul-places : goal.overflow_mul-places
-overflow_mul-places c =
-    let a = c.args in
-    let l = lent a.shape a.transition.now a.emission.now a.initial.now a.end.now a.samples.now in
-    let clear = sizes_passed a.needs_sample l _ _ c.is_done.ensures c.check_sizes-sizes.ensures c.if-not-is_done.false in
-    omega (arith, few_places a.needs_sample l clear)
+overflow_mul-places c = omega (arith, few_places c.args.needs_sample (behind c.args.lent.now) c.in_ok-check_lengths.ensures)
 
 pub returns : goal.returns
 returns c =
-    let a = c.args in
-    let l = lent a.shape a.transition.now a.emission.now a.initial.now a.end.now a.samples.now in
-    let clear = sizes_passed a.needs_sample l _ _ c.is_done.ensures c.check_sizes-sizes.ensures c.if-not-is_done.false in
-    rest_answers a.needs_sample l _ _ clear c.check_rest.ensures
+    let rest = rw c.of.ensures at c.check_rest.ensures in
+    rest_goes_on c.args.needs_sample (behind c.args.lent.now) _ c.in_ok-check_lengths.ensures rest

@@ -1,16 +1,11 @@
 -- All rows of a walk and its value, over any model and n samples: what the walk asks, and apart from it what its emissions ask. A flag says
 -- which way: true is backward.
 use Rattle.std.specs.Prelude.{ℕ, ◌+◌, ◌*◌, ◌-◌, ◌<◌, ◌≤◌, ◌≡◌, Bool, true, false, List, length, Float}
-use Rattle.floats.specs.Float.{at}
 use Rattle.lists.specs.Lists.{table, over}
-use Rattle.model.specs.declared.Shape.{Shape}
-use Rattle.model.specs.Model.{Model, emission_of, tabled}
+use Rattle.model.specs.Lent.{Lent, S, M, T}
+use Rattle.model.specs.Model.{Model}
+use Rattle.emission.specs.inner.Row.{Symbols}
 use Rattle.likelihood.specs.Walk.{alpha, forward_value, beta, backward_value}
-
--- the model in memory, with emissions of symbols: by a table, and the samples
-abbrev pub symbolic : Shape → List Float → List Float → List Float → List Float → List ℕ → Model
-symbolic shape transition emission initial end samples =
-    tabled shape.states transition initial (emission_of shape.symbols emission samples) shape.ends (at end)
 
 -- what a walk asks, whatever its emissions are: tables that fit the states, a sample at least, and room for a row for each
 pub record Walkable (S n : ℕ) (transition initial end values : List Float) : Type 0 where
@@ -20,6 +15,11 @@ pub record Walkable (S n : ℕ) (transition initial end values : List Float) : T
   pub end_length : length end ≡ S
   pub some_sample : 0 < n
   pub values_room : n * S ≤ length values
+
+-- the same of what a call is lent, whose emissions are by symbols
+pub record Ready (l : Lent) (values : List Float) : Type 0 where
+  pub walkable : Walkable (S l) (T l) l.tables.transition l.tables.initial l.tables.end values
+  pub symbols : Symbols (S l) (M l) l.tables.emission l.samples
 
 -- ---- the walk
 -- row i of a walk over n samples, by states
