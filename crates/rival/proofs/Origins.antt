@@ -16,7 +16,7 @@ use Rattle.best_path.specs.inner.Row.{first_from}
 use Rattle.best_path.proofs.Paths.{path_end, path_before}
 use Rattle.best_path.proofs.States.{from_state, last_below_lem}
 use Rattle.best_path.proofs.Steps.{path_of}
-use Rattle.rival.specs.inner.Origins.{Originated}
+use Rattle.rival.specs.inner.Origins.{Originated, Origins}
 
 -- ---- what is laid: each state is its own origin, or has its predecessor's
 module _ (states t index : ℕ) (from before was is : List ℕ) where
@@ -36,17 +36,13 @@ module _ (states t index : ℕ) (from before was is : List ℕ) where
       }
 
 module _ (m : Model) (index : ℕ) where
-  -- what the origins are once row t is laid
-  abbrev pub Origins : ℕ → List ℕ → Type 0
-  Origins t origins = index ≤ t → (j : ℕ) → j < m.states → get_or origins j 0 ≡ state_at (path_to (from m) t j) index
-
   own_origins : (t : ℕ) (f before origins : List ℕ) → Originated m.states t index f before origins → index ≡ t
       → (j : ℕ) → j < m.states → get_or origins j 0 ≡ state_at (path_to (from m) t j) index
   own_origins t f before origins o e j s = o.own (sym e) j s ∙ sym (ap (state_at (path_to (from m) t j)) e ∙ path_end (from m) t j)
 
   -- row t has these predecessors, and the origins of the row before it are these
   pub origins_laid : (t : ℕ) (f before origins : List ℕ) → 0 < m.states → Originated m.states t index f before origins
-      → ((j : ℕ) → j < m.states → get_or f j 0 ≡ from m t j) → (0 < t → Origins (t - 1) before) → Origins t origins
+      → ((j : ℕ) → j < m.states → get_or f j 0 ≡ from m t j) → (0 < t → Origins m index (t - 1) before) → Origins m index t origins
   origins_laid zero f before origins some o is h l j s = own_origins zero f before origins o (omega arith) j s
   origins_laid (suc t) f before origins some o is h l j s =
       ⊎_elim
@@ -61,7 +57,7 @@ module _ (m : Model) (index : ℕ) where
       (eq-or-lt_of_le l)
 
   -- and of n samples the state that is asked for is the last state's origin
-  pub origin_found : (n : ℕ) (origins : List ℕ) → 0 < m.states → index < n → Origins (n - 1) origins
+  pub origin_found : (n : ℕ) (origins : List ℕ) → 0 < m.states → index < n → Origins m index (n - 1) origins
       → (j : ℕ) → j ≡ last_state m (n - 1) → get_or origins j 0 ≡ state_at (best_path m n) index
   origin_found n origins some h o j e =
       let s : j < m.states = rw e (last_below_lem m some (n - 1)) in

@@ -9,6 +9,7 @@ use borrow.Author.Tests.{lt-ltb, le-ltb, ltb-true}
 use lib.Dec.{ltb}
 use lib.ListN.{length}
 use lib.Ieee.{Float}
+use Rattle.std.specs.Prelude.{Err}
 use Rattle.floats.specs.Float.{is_minus_infinity}
 use Rattle.lists.specs.Lists.{tab, table}
 use Rattle.lists.proofs.Over.{length_tab, over_settled}
@@ -20,13 +21,13 @@ use Rattle.answer.specs.declared.Refusal.TheVariants.{NoRival, BadIndex}
 use Rattle.answer.proofs.Checks.{clear, goes_on, stops}
 use Rattle.model.specs.Lent.{Lent, S, T}
 use Rattle.model.specs.Model.{model_of}
-use Rattle.checks.specs.Checks.{tests_of, passage, check}
+use Rattle.checks.specs.Checks.{tests_of, passage, check, check_fault}
+use Rattle.checks.proofs.Parts as Parts
 use Rattle.checks.proofs.Done.{passage_refuses}
 use Rattle.best_path.specs.Walk.{best_value}
 use Rattle.best_path.specs.Score.{state_at}
 use Rattle.walk.specs.Barred.{barred}
 use Rattle.walk.specs.inner.Path as Walk
-use Rattle.walk.proofs.Plain.{best_path_plain, best_value_plain, found_plain}
 use Rattle.rival.specs.declared.Rivalry.{Rivalry}
 use Rattle.rival.specs.declared.preview.Outlook.{Outlook}
 use Rattle.rival.specs.Call.{Asked, Outputs, chosen, rival_value, rival_tests, rooms, checked, rivalry, Told}
@@ -49,14 +50,12 @@ module _ (q : Asked) (r : Rivalry) where
     told_some h e = rw (lt-ltb _ _ within, h) e
 
 -- ---- what the two previews foresee
-module _ (q : Asked) (b : Outlook) (is : b ≡ previewed (barred (T q.lent) 0 (model_of q.lent)) (T q.lent) q.index) where
+module _ (q : Asked) (b : Outlook) (is : b ≡ previewed (model_of q.lent) (T q.lent) q.index) where
   pub best_foreseen : b.value ≡ best_value (model_of q.lent) (T q.lent)
-  best_foreseen = ap (λ (o : Outlook). o.value) is ∙ best_value_plain (model_of q.lent) _ 0 _ (le_refl _)
+  best_foreseen = ap (λ (o : Outlook). o.value) is
 
   pub chosen_foreseen : b.state ≡ chosen q
-  chosen_foreseen =
-      ap (λ (o : Outlook). o.state) is
-      ∙ ap (λ (p : List ℕ). state_at p q.index) (best_path_plain (model_of q.lent) _ 0 _ (le_refl _))
+  chosen_foreseen = ap (λ (o : Outlook). o.state) is
 
   pub rival_foreseen : (o : Outlook) → o ≡ previewed (barred q.index b.state (model_of q.lent)) (T q.lent) q.index
       → o.value ≡ rival_value q
@@ -72,16 +71,15 @@ module _ (l : Lent) (u d : ℕ) (o e : Outputs) (values : List Float) (from₁ :
       let same = length_flat (T l) (λ (t : ℕ). tab (S l) (g t)) (S l) (λ (k : ℕ). length_tab (S l) (g k)) in
       omega (arith, long, same)
 
-  pub both_found : Walk.Found (barred (T l) 0 (model_of l)) (T l) best o.path e.path o.values values o.from from₁
+  pub both_found : Walk.Found (model_of l) (T l) best o.path e.path o.values values o.from from₁
       → Walk.Found (barred u d (model_of l)) (T l) rival o.rival_path e.rival_path values e.values from₁ e.from
       → Found l u d o e
   both_found f g =
-      let p = found_plain (model_of l) _ 0 (T l) (le_refl _) _ _ _ _ _ _ _ f in
       record {
-        path_stored = p.path_stored;
+        path_stored = f.path_stored;
         rival_stored = g.path_stored;
-        values_stored = over_settled _ _ _ _ _ g.rows_filled.values_stored p.rows_filled.values_stored (same_room _ _);
-        from_stored = over_settled _ _ _ _ _ g.rows_filled.from_stored p.rows_filled.from_stored (same_room _ _);
+        values_stored = over_settled _ _ _ _ _ g.rows_filled.values_stored f.rows_filled.values_stored (same_room _ _);
+        from_stored = over_settled _ _ _ _ _ g.rows_filled.from_stored f.rows_filled.from_stored (same_room _ _);
       }
 
 -- ---- the ways in which a call ends
@@ -101,8 +99,10 @@ module _ (q : Asked) (o : Outputs) (r : Rivalry) where
   stays : is_done (checked q o) ≡ false → r ≡ rivalry q o → Told q o r o
   stays h e = record { told = e; path = rw h; rival_path = rw h; values = rw h; from = rw h }
 
-  pub is_refused : is_done early ≡ false → r ≡ nothing_told early → Told q o r o
-  is_refused h e =
+  pub is_refused : {x : Answer} → Err x ≡ check_fault false (rooms q o) q.lent → r ≡ nothing_told x → Told q o r o
+  is_refused {x} f e' =
+      let h = Parts.is_refused false q.lent (rooms q o) f in
+      let e = e' ∙ ap nothing_told (Parts.refusal_is false q.lent (rooms q o) f) in
       let c : checked q o ≡ early = sym (stops _ (rival_tests q) early refl h) in
       stays (ap is_done c ∙ h) (rw (c, h) e)
 

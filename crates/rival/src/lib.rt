@@ -6,17 +6,17 @@
 mod preview;
 
 ghost use Rattle.std.specs.Prelude.{◌≡◌};
-ghost use Rattle.model.specs.Lent.{lent};
+ghost use Rattle.model.specs.Lent.{behind};
 ghost use Rattle.model.specs.Accepted.{Accepted};
 ghost use Rattle.rival.specs.Call.{asked, outputs, Told};
-ghost use Rattle.rival.specs.inner.Parts.{checked_for, nothing_told, told, Found, Walkable};
+ghost use Rattle.rival.specs.inner.Parts.{fault_for, nothing_told, told, Found, Walkable};
 
 use crate::preview::preview;
-use answer::{Answer, Refusal, done, is_done, refused};
-use checks::{check_rest, check_sizes};
+use answer::{Answer, Checked, Refusal, done, refused};
+use checks::{Room, check_lengths, check_rest};
 use floats::{is_minus_infinity, minus_infinity};
-use model::Shape;
-use walk::decode;
+use model::Lent;
+use walk::{Bar, decode};
 
 // What the call gives back: its answer, whose value is the rival's score, the state that the best path has at the sample, and the best
 // path's value. Refused, the state is 0 and the value minus infinity.
@@ -39,69 +39,36 @@ fn nothing(answer: Answer) -> Rivalry
 }
 
 // The checks 1 to 8, in their order; of the outputs only the lengths are needed.
-fn check(
-    shape: Shape,
-    transition: &[f64],
-    emission: &[f64],
-    initial: &[f64],
-    end: &[f64],
-    samples: &[u16],
-    path: usize,
-    rival_path: usize,
-    values: usize,
-    from: usize,
-) -> Answer
-    ensures { result ≡ checked_for
-        (lent shape transition.now emission.now initial.now end.now samples.now)
-        path rival_path values from }
+fn check(lent: &Lent, path: usize, rival_path: usize, values: usize, from: usize) -> Checked
+    ensures { result ≡ fault_for (behind lent.now) path rival_path values from }
 {
-    let n = samples.len();
-    let sizes = check_sizes(
-        false,
-        shape,
-        transition.len(),
-        emission.len(),
-        initial.len(),
-        end.len(),
-        n,
-    );
-    if !is_done(sizes) {
-        return sizes;
-    }
-    let places = n * shape.states;
-    let needed = [n, n, places, places];
-    let lent = [path, rival_path, values, from];
-    check_rest(
-        shape, transition, emission, initial, end, samples, &needed, &lent,
-    )
+    check_lengths(false, lent)?;
+    let n = lent.samples.len();
+    let places = n * lent.tables.shape.states;
+    let outputs = [
+        Room::of(n, path),
+        Room::of(n, rival_path),
+        Room::of(places, values),
+        Room::of(places, from),
+    ];
+    check_rest(lent, &outputs)
 }
 
 // What there is to tell of a call that has passed the checks 1 to 8: 16 or 15, or the rival's score with the chosen state and the best
 // value. No lent memory is written, so that a refusal leaves it alone.
-fn foretell(
-    shape: Shape,
-    transition: &[f64],
-    emission: &[f64],
-    initial: &[f64],
-    end: &[f64],
-    samples: &[u16],
-    index: usize,
-) -> Rivalry
-    requires { Accepted (lent shape transition.now emission.now initial.now end.now samples.now) }
-    ensures { result ≡ told (asked
-        (lent shape transition.now emission.now initial.now end.now samples.now)
-        index) }
+fn foretell(lent: &Lent, index: usize) -> Rivalry
+    requires { Accepted (behind lent.now) }
+    ensures { result ≡ told (asked (behind lent.now) index) }
 {
-    let n = samples.len();
-    if n <= index {
+    if lent.samples.len() <= index {
         return nothing(refused(Refusal::BadIndex, 0, 0));
     }
-    let best = preview(
-        shape, transition, emission, initial, end, samples, n, 0, index,
-    );
-    let rival = preview(
-        shape, transition, emission, initial, end, samples, index, best.state, index,
-    );
+    let best = preview(lent, None, index);
+    let bar = Bar {
+        index,
+        state: best.state,
+    };
+    let rival = preview(lent, Some(bar), index);
     if is_minus_infinity(rival.value) {
         return nothing(refused(Refusal::NoRival, 0, 0));
     }
@@ -114,55 +81,27 @@ fn foretell(
 
 // Both walks: the best path first, and then the rival, whose rows stay. The caller shows that the tables fit and that there is room.
 fn walk_both(
-    shape: Shape,
-    transition: &[f64],
-    emission: &[f64],
-    initial: &[f64],
-    end: &[f64],
-    samples: &[u16],
-    index: usize,
-    chosen: usize,
+    lent: &Lent,
+    bar: Bar,
     path: &mut [u8],
     rival_path: &mut [u8],
     values: &mut [f64],
     from: &mut [u8],
 )
-    requires { Walkable
-        (lent shape transition.now emission.now initial.now end.now samples.now)
+    requires { Walkable (behind lent.now)
         (outputs path.old rival_path.old values.old from.old) }
-    ensures { Found
-        (lent shape transition.now emission.now initial.now end.now samples.now)
-        index chosen
+    ensures { Found (behind lent.now) bar.index bar.state
         (outputs path.old rival_path.old values.old from.old)
         (outputs path.new rival_path.new values.new from.new) }
 {
-    decode(
-        shape,
-        transition,
-        emission,
-        initial,
-        end,
-        samples,
-        samples.len(),
-        0,
-        path,
-        values,
-        from,
-    );
-    decode(
-        shape, transition, emission, initial, end, samples, index, chosen, rival_path, values, from,
-    );
+    decode(lent, None, path, values, from);
+    decode(lent, Some(bar), rival_path, values, from);
 }
 
 // The strongest rival at the sample `index`: the best path in `path`, the rival in `rival_path`, and the value and the predecessor of every
 // state at every sample, as the rival's walk has them, in `values` and `from`, T rows of S. Refused, nothing is written.
 pub fn rival(
-    shape: Shape,
-    transition: &[f64],
-    emission: &[f64],
-    initial: &[f64],
-    end: &[f64],
-    samples: &[u16],
+    lent: &Lent,
     index: usize,
     path: &mut [u8],
     rival_path: &mut [u8],
@@ -170,45 +109,28 @@ pub fn rival(
     from: &mut [u8],
 ) -> Rivalry
     ensures { Told
-        (asked
-        (lent shape transition.now emission.now initial.now end.now samples.now)
-        index)
+        (asked (behind lent.now) index)
         (outputs path.old rival_path.old values.old from.old)
         result
         (outputs path.new rival_path.new values.new from.new) }
 {
-    let checked = check(
-        shape,
-        transition,
-        emission,
-        initial,
-        end,
-        samples,
+    if let Err(refusal) = check(
+        lent,
         path.len(),
         rival_path.len(),
         values.len(),
         from.len(),
-    );
-    if !is_done(checked) {
-        return nothing(checked);
+    ) {
+        return nothing(refusal);
     }
-    let rivalry = foretell(shape, transition, emission, initial, end, samples, index);
+    let rivalry = foretell(lent, index);
     let answer = rivalry.answer;
-    if is_done(answer) {
-        walk_both(
-            shape,
-            transition,
-            emission,
-            initial,
-            end,
-            samples,
+    if answer.is_done() {
+        let bar = Bar {
             index,
-            rivalry.chosen,
-            path,
-            rival_path,
-            values,
-            from,
-        );
+            state: rivalry.chosen,
+        };
+        walk_both(lent, bar, path, rival_path, values, from);
     }
     rivalry
 }

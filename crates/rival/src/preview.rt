@@ -1,17 +1,17 @@
 // A walk that leaves no rows: the best path's value and the state that it has at one sample, in local memory of 64 places. Beside the row
 // it carries each state's origin, the state that the best path to it has at that sample.
-ghost use Rattle.std.specs.Prelude.{◌≡◌, ◌<◌, length, get_or};
+ghost use Rattle.std.specs.Prelude.{◌≡◌, ◌<◌, Option, get_or};
 ghost use Rattle.lists.specs.Lists.{tab, over};
-ghost use Rattle.model.specs.Lent.{lent};
+ghost use Rattle.model.specs.Lent.{T, behind};
 ghost use Rattle.model.specs.Model.{model_of};
 ghost use Rattle.model.specs.Accepted.{Accepted};
-ghost use Rattle.walk.specs.Barred.{barred};
-ghost use Rattle.rival.specs.inner.Origins.{Followable, Following, Originated, previewed};
+ghost use Rattle.walk.specs.Barred.{barred_by};
+ghost use Rattle.rival.specs.inner.Origins.{CarriedTo, Followable, Following, Originated, previewed};
 
 use best_path::back::{close, last_state};
 use best_path::row::first_from;
-use model::Shape;
-use walk::lay_sample;
+use model::Lent;
+use walk::{Bar, lay_sample};
 
 // The best path's value, and the state that it has at the sample that was asked for.
 #[derive(Clone, Copy)]
@@ -21,15 +21,14 @@ pub struct Outlook {
 }
 
 // Each state has the origin of its predecessor in the row before.
+#[tactic(auto, using(lists::proofs::Over::over_tab_none, lists::proofs::Over::over_tab_more))]
 fn follow(states: usize, from: &[u8], before: &[u8], origins: &mut [u8])
     requires { Followable states from.now before.now origins.old }
     ensures { origins.new ≡ over 0
         (tab states (λ j. get_or before.now (get_or from.now j 0) 0)) origins.old }
 {
-    let mut j = 0;
-    while j < states {
+    for j in 0..states {
         origins[j] = before[from[j] as usize];
-        j += 1;
     }
 }
 
@@ -55,43 +54,28 @@ fn lay_origins(
     follow(states, from, before, origins);
 }
 
-// The walk over one sample or more, where `state` is barred at the sample `bar`, asked for its state at the sample `index`. The caller
-// shows that what is lent is accepted, and that there is such a sample.
-pub fn preview(
-    shape: Shape,
-    transition: &[f64],
-    emission: &[f64],
-    initial: &[f64],
-    end: &[f64],
-    samples: &[u16],
-    bar: usize,
-    state: usize,
-    index: usize,
-) -> Outlook
-    requires accepted { Accepted (lent shape transition.now emission.now initial.now end.now samples.now) }
-    requires index_in_bounds { index < length samples.now }
-    ensures { result ≡ previewed
-        (barred bar state (model_of (lent
-        shape transition.now emission.now initial.now end.now samples.now)))
-        (length samples.now) index }
+// What the walk carries from sample to sample: the row, and the origins of its states.
+#[derive(Clone, Copy)]
+struct Carried {
+    row: [f64; 64],
+    origins: [u8; 64],
+}
+
+// What the walk carries at its end, over one sample or more.
+fn carry(lent: &Lent, bar: Option<Bar>, index: usize) -> Carried
+    requires accepted { Accepted (behind lent.now) }
+    requires some_sample { 0 < T (behind lent.now) }
+    ensures { CarriedTo (barred_by bar (model_of (behind lent.now))) (T (behind lent.now)) index result }
 {
-    let states = shape.states;
-    let symbols = shape.symbols;
+    let states = lent.tables.shape.states;
     let mut emissions = [0.0; 64];
     let mut row = [0.0; 64];
     let mut from = [0u8; 64];
     let mut origins = [0u8; 64];
-    let mut t = 0;
-    while t < samples.len() {
+    for t in 0..lent.samples.len() {
         lay_sample(
-            states,
-            symbols,
-            transition,
-            emission,
-            initial,
-            samples,
+            lent,
             bar,
-            state,
             t,
             0,
             0,
@@ -101,11 +85,24 @@ pub fn preview(
         );
         let before = origins;
         lay_origins(states, t, index, &from, &before, &mut origins);
-        t += 1;
     }
-    let last = last_state(shape.ends, end, &row[..states]);
+    Carried { row, origins }
+}
+
+// The walk over one sample or more, where a state is barred at one of them, or none, asked for its state at the sample `index`. The caller
+// shows that what is lent is accepted, and that there is such a sample.
+pub fn preview(lent: &Lent, bar: Option<Bar>, index: usize) -> Outlook
+    requires accepted { Accepted (behind lent.now) }
+    requires index_in_bounds { index < T (behind lent.now) }
+    ensures { result ≡ previewed (barred_by bar (model_of (behind lent.now))) (T (behind lent.now)) index }
+{
+    let carried = carry(lent, bar, index);
+    let tables = lent.tables;
+    let shape = tables.shape;
+    let row = &carried.row[..shape.states];
+    let last = last_state(shape.ends, tables.end, row);
     Outlook {
-        value: close(shape.ends, end, &row[..states], last),
-        state: origins[last] as usize,
+        value: close(shape.ends, tables.end, row, last),
+        state: carried.origins[last] as usize,
     }
 }

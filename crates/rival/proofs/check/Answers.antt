@@ -1,23 +1,19 @@
 -- `rival::check` meets its contract: sizes first, and the rest where they find no fault.
-use mathlib.Core.Bool.{false}
-use native.Mathlib.Omega.{arith}
-use Rattle.model.specs.Lent.{lent}
-use Rattle.checks.proofs.Parts.{sizes_passed, few_places, sizes_refused, rest_answers}
+use Rattle.std.proofs.Common.{false, arith}
+use Rattle.std.proofs.lemmas.Result.{err_from_is_err_and}
+use Rattle.model.specs.Lent.{behind}
+use Rattle.checks.proofs.Parts.{few_places, sizes_stop, rest_goes_on}
 use Rattle.rival.proofs.check.Goals as goal
 
-pub returns-then-not-is_done : goal.returns-then-not-is_done
-returns-then-not-is_done c = let a = c.args in
-    let g = lent a.shape a.transition.now a.emission.now a.initial.now a.end.now a.samples.now in
-    sizes_refused false g _ _ _ c.is_done.ensures c.check_sizes-sizes.ensures c.if-not-is_done.true
+pub returns-in_err-check_lengths : goal.returns-in_err-check_lengths
+returns-in_err-check_lengths c =
+    let p = err_from_is_err_and c.from_residual.result c.from_residual.ensures.1 in
+    rw (p.1, p.2) (sizes_stop false (behind c.args.lent.now) _ c.in_err-check_lengths.ensures)
 
 pub overflow_mul-places : goal.overflow_mul-places
-overflow_mul-places c = let a = c.args in
-    let g = lent a.shape a.transition.now a.emission.now a.initial.now a.end.now a.samples.now in
-    let clear = sizes_passed false g _ _ c.is_done.ensures c.check_sizes-sizes.ensures c.if-not-is_done.false in
-    omega (arith, few_places false g clear)
+overflow_mul-places c = omega (arith, few_places false (behind c.args.lent.now) c.in_ok-check_lengths.ensures)
 
 pub returns : goal.returns
-returns c = let a = c.args in
-    let g = lent a.shape a.transition.now a.emission.now a.initial.now a.end.now a.samples.now in
-    let clear = sizes_passed false g _ _ c.is_done.ensures c.check_sizes-sizes.ensures c.if-not-is_done.false in
-    rest_answers false g _ _ clear c.check_rest.ensures
+returns c =
+    let rest = rw (c.of.ensures, c.of-2.ensures, c.of-3.ensures, c.of-4.ensures) at c.check_rest.ensures in
+    rest_goes_on false (behind c.args.lent.now) _ c.in_ok-check_lengths.ensures rest

@@ -1,5 +1,5 @@
 -- What the parts of a call ask and promise: its checks by lengths alone, what it tells, and both walks.
-use Rattle.std.specs.Prelude.{ℕ, ◌*◌, ◌<◌, ◌≡◌, false, cond, [], ◌∷◌}
+use Rattle.std.specs.Prelude.{ℕ, ◌*◌, ◌<◌, ◌≡◌, false, cond, [], ◌∷◌, Result}
 use Rattle.floats.specs.Float.{minus_infinity}
 use Rattle.lists.specs.Lists.{table, over}
 use Rattle.answer.specs.Answer.{is_done, answered}
@@ -9,16 +9,16 @@ use Rattle.model.specs.Lent.{Lent, S, T}
 use Rattle.model.specs.Model.{model_of}
 use Rattle.model.specs.Accepted.{Accepted}
 use Rattle.checks.specs.Rooms.{Roomy, room}
-use Rattle.checks.specs.Checks.{check}
+use Rattle.checks.specs.Checks.{check_fault}
 use Rattle.best_path.specs.Walk.{value, from, best_path, best_value}
 use Rattle.walk.specs.Barred.{barred}
 use Rattle.rival.specs.Call.{Asked, asked, Outputs, chosen, rival_value, rival_tests, rooms}
 use Rattle.rival.specs.declared.Rivalry.{Rivalry}
 
 -- the checks 1 to 8 of a call whose outputs have these lengths
-abbrev pub checked_for : Lent → ℕ → ℕ → ℕ → ℕ → Answer
-checked_for l path rival_path values from =
-    check false (room (T l) path ∷ room (T l) rival_path ∷ room (T l * S l) values ∷ room (T l * S l) from ∷ []) l
+abbrev pub fault_for : Lent → ℕ → ℕ → ℕ → ℕ → Result Unit Answer
+fault_for l path rival_path values from =
+    check_fault false (room (T l) path ∷ room (T l) rival_path ∷ room (T l * S l) values ∷ room (T l * S l) from ∷ []) l
 
 -- what is told with a refusal
 abbrev pub nothing_told : Answer → Rivalry
