@@ -36,13 +36,16 @@ module _ (n : ℕ) (v w : ℕ → Float) (same : (k : ℕ) → k < n → v k ≡
 
 -- ---- the best predecessors and their sums, once they are found, make the row after
 module _ (states : ℕ) (transition row sums : List Float) (winners : List ℕ) (r : Ranked states transition row sums winners) where
-  pub ranked_values : (emissions : List Float)
-      → tab states (λ (j : ℕ). at sums j ⊕ at emissions j) ≡ tab states (next_value states transition emissions row)
+  pub ranked_values : (emissions values values' : List Float) (target : ℕ)
+      → values' ≡ over target (tab states (λ (j : ℕ). at sums j ⊕ at emissions j)) values
+      → values' ≡ over target (tab states (next_value states transition emissions row)) values
   unfolding cell
-  ranked_values emissions = tab_same states _ _ (λ (j : ℕ) h. ap (λ (x : Float). x ⊕ at emissions j) (r.sum j h))
+  ranked_values emissions values values' target e =
+      e ∙ ap (λ (p : List Float). over target p values) (tab_same states _ _ (λ (j : ℕ) h. ap (λ (x : Float). x ⊕ at emissions j) (r.sum j h)))
 
-  pub ranked_from : tab states (λ (j : ℕ). get_or winners j 0) ≡ tab states (next_from states transition row)
-  ranked_from = tab_same states _ _ (λ (j : ℕ) h. r.winner j h)
+  pub ranked_from : (from₀ from' : List ℕ) (target : ℕ) → from' ≡ over target (tab states (λ (j : ℕ). get_or winners j 0)) from₀
+      → from' ≡ over target (tab states (next_from states transition row)) from₀
+  ranked_from from₀ from' target e = e ∙ ap (λ (p : List ℕ). over target p from₀) (tab_same states _ _ r.winner)
 
   pub ranked_below : (j : ℕ) → j < states → get_or winners j 0 < states
   unfolding predecessor

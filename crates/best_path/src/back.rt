@@ -10,6 +10,7 @@ use model::entry;
 
 // The score of the best path that ends in state k, where `row` is the last row: its value, and with an end state its end entry, which is
 // added last. The caller shows that the row and the end table have state k.
+#[tactic(auto, unfolding(crate::specs::Walk::ended))]
 pub fn close(ends: bool, end: &[f64], row: &[f64], k: usize) -> f64
     requires { (k < length end.now) × (k < length row.now) }
     ensures { result ≡ ended ends (at end.now k) (at row.now k) }
@@ -20,17 +21,16 @@ pub fn close(ends: bool, end: &[f64], row: &[f64], k: usize) -> f64
 
 // The state in which the best path ends, where `row` is the last row: the highest-numbered of the greatest scores. The caller shows that
 // there is a state, and an end entry for each.
+#[tactic(auto, using(crate::proofs::Turn::best_none, crate::proofs::Turn::best_more), unfolding(crate::specs::Best::greatest))]
 pub fn last_state(ends: bool, end: &[f64], row: &[f64]) -> usize
     requires { (0 < length row.now) × (length end.now ≡ length row.now) }
     ensures { result ≡ greatest (length row.now) (λ j. ended ends (at end.now j) (at row.now j)) }
 {
     let mut best = 0;
-    let mut k = 0;
-    while k < row.len() {
+    for k in 0..row.len() {
         if close(ends, end, row, best) <= close(ends, end, row, k) {
             best = k;
         }
-        k += 1;
     }
     best
 }
@@ -41,12 +41,10 @@ pub fn trace(states: usize, from: &[u8], n: usize, last: usize, start: usize, pa
     requires { Traceable states n last from.now start path.old }
     ensures { path.new ≡ over start (path_to (from_at states from.now) (n - 1) last) path.old }
 {
-    let mut t = n - 1;
     let mut k = last;
-    while 0 < t {
+    for t in (1..n).rev() {
         path[start + t] = k as u8;
         k = from[t * states + k] as usize;
-        t -= 1;
     }
     path[start] = k as u8;
 }

@@ -7,14 +7,13 @@ use crate::step::next_row;
 use emission::first_row;
 
 // The predecessors of the first row: each state is its own.
+#[tactic(auto, using(lists::proofs::Over::over_tab_none, lists::proofs::Over::over_tab_more))]
 pub fn first_from(states: usize, from: &mut [u8])
     requires { (states ≤ 64) × (states ≤ length from.old) }
     ensures { from.new ≡ over 0 (first_from states) from.old }
 {
-    let mut j = 0;
-    while j < states {
+    for j in 0..states {
         from[j] = j as u8;
-        j += 1;
     }
 }
 
@@ -39,7 +38,7 @@ pub fn lay_row(
     if t == 0 {
         first_row(initial, emissions, values);
         first_from(states, from);
-        return;
+    } else {
+        next_row(states, transition, emissions, source, target, values, from);
     }
-    next_row(states, transition, emissions, source, target, values, from);
 }

@@ -1,6 +1,6 @@
 // The step from one row to the next: every state's best predecessor, then the values and the predecessors of the next row. It reads a row
 // anywhere and writes anywhere.
-ghost use Rattle.std.specs.Prelude.{◌≡◌, cond, ◌&&◌, ◌||◌, ◌≤◌, length, get_or};
+ghost use Rattle.std.specs.Prelude.{◌≡◌, ◌&&◌, ◌||◌, ◌≤◌, length, get_or};
 ghost use Rattle.std.specs.Float.Ieee.{le};
 ghost use Rattle.floats.specs.Float.{◌⊕◌, at, is_minus_infinity};
 ghost use Rattle.lists.specs.Lists.{tab, over};
@@ -8,20 +8,6 @@ ghost use Rattle.best_path.specs.inner.Step.{by_sum, by_rank, Offered, Rankable,
 
 use floats::is_minus_infinity;
 use model::entry;
-
-// x where the test is met, else y.
-fn pick(test: bool, x: f64, y: f64) -> f64
-    ensures { result ≡ cond test x y }
-{
-    if test { x } else { y }
-}
-
-// State k where the test is met, else state j.
-fn pick_state(test: bool, k: usize, j: usize) -> usize
-    ensures { result ≡ cond test k j }
-{
-    if test { k } else { j }
-}
 
 // Whether a sum is taken in place of the best so far: where that one is low it always is, else where it is at least as great.
 fn is_taken(low: bool, best: f64, sum: f64) -> bool
@@ -36,14 +22,12 @@ fn hold(low: bool, k: usize, value: f64, step: &[f64], sums: &mut [f64], winners
     ensures { Offered (by_sum low value step.now sums.old) k value step.now
         sums.old sums.new winners.old winners.new }
 {
-    let mut j = 0;
-    while j < step.len() {
+    for j in 0..step.len() {
         let sum = value + entry(step, j);
-        let best = entry(&sums[..], j);
-        let taken = is_taken(low, best, sum);
-        sums[j] = pick(taken, sum, best);
-        winners[j] = pick_state(taken, k, winners[j]);
-        j += 1;
+        if is_taken(low, entry(sums, j), sum) {
+            sums[j] = sum;
+            winners[j] = k;
+        }
     }
 }
 
@@ -62,15 +46,10 @@ fn offer(
     ensures held { Offered (by_rank low value step.now sums.old) k value step.now
         sums.old sums.new winners.old winners.new }
 {
-    if low {
-        hold(true, k, value, step, sums, winners);
-        return is_minus_infinity(value);
+    if low || !is_minus_infinity(value) {
+        hold(low, k, value, step, sums, winners);
     }
-    if is_minus_infinity(value) {
-        return false;
-    }
-    hold(false, k, value, step, sums, winners);
-    false
+    low && is_minus_infinity(value)
 }
 
 // Every state's best predecessor, where `row` is the row before, and the sum of its value and transition. The caller shows that the table
@@ -86,43 +65,40 @@ pub fn predecessors(
     ensures { Ranked states transition.now row.now sums.new winners.new }
 {
     let mut low = true;
-    let mut k = 0;
-    while k < states {
-        let at = k * states;
-        let stop = at + states;
-        low = offer(low, k, entry(row, k), &transition[at..stop], sums, winners);
-        k += 1;
+    for k in 0..states {
+        let start = k * states;
+        let step = &transition[start..start + states];
+        low = offer(low, k, entry(row, k), step, sums, winners);
     }
 }
 
 // The values of a row, laid from place `target` on: the best predecessors' sums, each with its emission. The caller shows that there is one
 // of each for every state, and room.
+#[tactic(auto, using(lists::proofs::Over::over_tab_none, lists::proofs::Over::over_tab_more))]
 pub fn lay_sums(states: usize, sums: &[f64], emissions: &[f64], target: usize, values: &mut [f64])
     requires { Summable states sums.now emissions.now target values.old }
     ensures { values.new ≡ over target
         (tab states (λ j. at sums.now j ⊕ at emissions.now j)) values.old }
 {
-    let mut j = 0;
-    while j < states {
+    for j in 0..states {
         values[target + j] = entry(sums, j) + entry(emissions, j);
-        j += 1;
     }
 }
 
 // The predecessors of a row, laid from place `target` on. The caller shows that there is one for every state, each a byte, and room.
+#[tactic(auto, using(lists::proofs::Over::over_tab_none, lists::proofs::Over::over_tab_more))]
 pub fn lay_winners(states: usize, winners: &[usize], target: usize, from: &mut [u8])
     requires { Placeable states winners.now target from.old }
     ensures { from.new ≡ over target (tab states (λ j. get_or winners.now j 0)) from.old }
 {
-    let mut j = 0;
-    while j < states {
+    for j in 0..states {
         from[target + j] = winners[j] as u8;
-        j += 1;
     }
 }
 
 // The row after the one at `source`, for a sample of these emissions, laid from place `target` on. The caller shows that the table fits,
 // that both rows are within the memory, and that there is an emission for each state.
+#[tactic(auto, using(crate::proofs::Steps::ranked_below))]
 pub fn next_row(
     states: usize,
     transition: &[f64],
@@ -136,16 +112,10 @@ pub fn next_row(
     ensures { Stepped states transition.now emissions.now source target
         values.old values.new from.old from.new }
 {
-    let stop = source + states;
+    let row = &values[source..source + states];
     let mut sums = [0.0; 64];
     let mut winners = [0; 64];
-    predecessors(
-        states,
-        transition,
-        &values[source..stop],
-        &mut sums,
-        &mut winners,
-    );
+    predecessors(states, transition, row, &mut sums, &mut winners);
     lay_sums(states, &sums, emissions, target, values);
     lay_winners(states, &winners, target, from);
 }
