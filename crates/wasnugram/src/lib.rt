@@ -7,7 +7,7 @@ ghost use Rattle.std.specs.Prelude.{◌≡◌};
 ghost use Rattle.answer.specs.declared.Answer.{Answer};
 ghost use Rattle.kernels.specs.Calls.{exp_answer, ln_answer, ln1m_answer};
 ghost use Rattle.probs.specs.Calls.{ln_sum_exp_answer, ln_add_exp_answer, ln_sub_exp_answer, cap_answer, Cumulated};
-ghost use Rattle.model.specs.Lent.{tables_of, lent};
+ghost use Rattle.model.specs.Lent.{tables_of, lent, behind};
 ghost use Rattle.viterbi.specs.Call.{Decoded, outputs};
 ghost use Rattle.rival.specs.declared.Rivalry.{Rivalry};
 ghost use Rattle.rival.specs.Call.{asked, Told, outputs as rivals};
@@ -17,8 +17,8 @@ ghost use Rattle.model_file.specs.declared.Reading.{Reading};
 ghost use Rattle.model_file.specs.Call.{Read, Written, length_of, outputs as tables};
 ghost use Rattle.wasnugram.specs.Face.{shape_of, flat_shape, flattened, Answers, Reads, Tells};
 
-use answer::{Answer, number};
-use model::Shape;
+use answer::Answer;
+use model::{Lent, Shape, Tables};
 use probs::LogProb;
 
 // S states, M symbols, and whether the model has an end state: 0 for no, anything else for yes.
@@ -61,9 +61,8 @@ pub struct WasnugramRivalry {
 fn flat(answer: Answer) -> WasnugramAnswer
     ensures { result ≡ flattened answer }
 {
-    let refusal = answer.refusal;
     WasnugramAnswer {
-        refusal: number(refusal),
+        refusal: answer.refusal.number(),
         table: answer.table,
         place: answer.place,
         value: answer.value,
@@ -79,6 +78,38 @@ fn flat_shape(shape: Shape) -> WasnugramShape
         symbols: shape.symbols,
         ends: shape.ends as u8,
     }
+}
+
+// A shape as the library takes it.
+fn shape_of(shape: WasnugramShape) -> Shape
+    ensures { result ≡ shape_of shape }
+{
+    Shape {
+        states: shape.states,
+        symbols: shape.symbols,
+        ends: shape.ends != 0,
+    }
+}
+
+// What a call is lent, as the library takes it.
+fn lent_of<'a>(
+    shape: WasnugramShape,
+    transition: &'a [f64],
+    emission: &'a [f64],
+    initial: &'a [f64],
+    end: &'a [f64],
+    samples: &'a [u16],
+) -> Lent<'a>
+    ensures { behind result ≡ lent (shape_of shape) transition.now emission.now initial.now end.now samples.now }
+{
+    let tables = Tables {
+        shape: shape_of(shape),
+        transition,
+        emission,
+        initial,
+        end,
+    };
+    Lent { tables, samples }
 }
 
 // The best path.
@@ -100,14 +131,8 @@ pub fn wasnugram_viterbi(
         a
         (outputs path.new values.new from.new)) result }
 {
-    let shape = Shape {
-        states: shape.states,
-        symbols: shape.symbols,
-        ends: shape.ends != 0,
-    };
-    flat(viterbi::viterbi(
-        shape, transition, emission, initial, end, samples, path, values, from,
-    ))
+    let lent = lent_of(shape, transition, emission, initial, end, samples);
+    flat(viterbi::viterbi(&lent, path, values, from))
 }
 
 // The strongest rival of the best path at a sample.
@@ -133,17 +158,10 @@ pub fn wasnugram_rival(
         a
         (rivals path.new rival_path.new values.new from.new)) result }
 {
-    let shape = Shape {
-        states: shape.states,
-        symbols: shape.symbols,
-        ends: shape.ends != 0,
-    };
-    let rivalry = rival::rival(
-        shape, transition, emission, initial, end, samples, index, path, rival_path, values, from,
-    );
-    let answer = rivalry.answer;
+    let lent = lent_of(shape, transition, emission, initial, end, samples);
+    let rivalry = rival::rival(&lent, index, path, rival_path, values, from);
     WasnugramRivalry {
-        answer: flat(answer),
+        answer: flat(rivalry.answer),
         chosen: rivalry.chosen,
         best: rivalry.best,
     }
@@ -164,12 +182,8 @@ pub fn wasnugram_forward(
         samples.now)
         values.old a values.new) result }
 {
-    let shape = Shape {
-        states: shape.states,
-        symbols: shape.symbols,
-        ends: shape.ends != 0,
-    };
-    flat(likelihood::forward(shape, transition, emission, initial, end, samples, values))
+    let lent = lent_of(shape, transition, emission, initial, end, samples);
+    flat(likelihood::forward(&lent, values))
 }
 
 // The same from the end: the backward walk.
@@ -187,12 +201,8 @@ pub fn wasnugram_backward(
         samples.now)
         values.old a values.new) result }
 {
-    let shape = Shape {
-        states: shape.states,
-        symbols: shape.symbols,
-        ends: shape.ends != 0,
-    };
-    flat(likelihood::backward(shape, transition, emission, initial, end, samples, values))
+    let lent = lent_of(shape, transition, emission, initial, end, samples);
+    flat(likelihood::backward(&lent, values))
 }
 
 // One training pass.
@@ -219,18 +229,9 @@ pub fn wasnugram_baum_welch(
         (trained new_transition.new new_emission.new new_initial.new new_end.new
         alpha.new beta.new)) result }
 {
-    let shape = Shape {
-        states: shape.states,
-        symbols: shape.symbols,
-        ends: shape.ends != 0,
-    };
+    let lent = lent_of(shape, transition, emission, initial, end, samples);
     flat(baum_welch::baum_welch(
-        shape,
-        transition,
-        emission,
-        initial,
-        end,
-        samples,
+        &lent,
         new_transition,
         new_emission,
         new_initial,
@@ -255,11 +256,9 @@ pub fn wasnugram_read_model(
         (tables transition.new emission.new initial.new end.new)) result }
 {
     let reading = model_file::read_model(file, transition, emission, initial, end);
-    let answer = reading.answer;
-    let shape = reading.shape;
     WasnugramReading {
-        answer: flat(answer),
-        shape: flat_shape(shape),
+        answer: flat(reading.answer),
+        shape: flat_shape(reading.shape),
     }
 }
 
@@ -276,24 +275,15 @@ pub fn wasnugram_write_model(
         (tables_of (shape_of shape) transition.now emission.now initial.now end.now)
         file.old a file.new) result }
 {
-    let shape = Shape {
-        states: shape.states,
-        symbols: shape.symbols,
-        ends: shape.ends != 0,
-    };
-    flat(model_file::write_model(shape, transition, emission, initial, end, file))
+    let tables = lent_of(shape, transition, emission, initial, end, &[]).tables;
+    flat(model_file::write_model(&tables, file))
 }
 
 // The bytes of a file of this shape.
 pub fn wasnugram_model_file_length(shape: WasnugramShape) -> usize
     ensures { result ≡ length_of (shape_of shape) }
 {
-    let shape = Shape {
-        states: shape.states,
-        symbols: shape.symbols,
-        ends: shape.ends != 0,
-    };
-    model_file::file_length(shape)
+    model_file::file_length(shape_of(shape))
 }
 
 // exp(d), d at most 0.
