@@ -1,5 +1,5 @@
 -- What is known of a file in which no test finds fault, and what is to be known for that.
-use Prim.Native.Nat.{ℕ, zero, suc, ◌+◌, ◌≤◌, ◌<◌}
+use Prim.Native.Nat.{ℕ, zero, suc, ◌≤◌, ◌<◌}
 use mathlib.Core.Path.{◌≡◌, refl, sym, ap, ◌∙◌}
 use mathlib.Core.Bool.{Bool, true, false, not}
 use mathlib.Core.List.{List, [], ◌∷◌, append-nil}
@@ -26,7 +26,6 @@ use Rattle.file_layout.proofs.Fits.{Fits, fits_of, of_fits}
 use Rattle.answer.specs.declared.Answer.{Answer}
 use Rattle.answer.specs.declared.Refusal.TheVariants.{BadLayout}
 use lib.Ieee.{Float}
-use native.Mathlib.Numerals.{add-one}
 
 -- tests by a rule
 pub tab_clear : (n : ℕ) (t : ℕ → Bool × Answer) → Clear (tab n t) → (i : ℕ) → i < n → (t i).0 ≡ false
@@ -62,16 +61,6 @@ module _ (n : ℕ) (t : ℕ → Bool × Answer) where
   pub record Cleared (i : ℕ) : Type 0 where
     pub within : i ≤ n
     pub none : (j : ℕ) → j < i → (t j).0 ≡ false
-
-  pub cleared_none : Cleared 0
-  cleared_none = record { within = omega arith; none = λ (j : ℕ) l. absurd (not-suc-le-zero l) }
-
-  pub cleared_more : (i : ℕ) → Cleared i → i < n → (t i).0 ≡ false → Cleared (i + 1)
-  cleared_more i c l h =
-      record {
-        within = omega arith;
-        none = λ (j : ℕ) k. ⊎_elim (λ (e : j ≡ i). rw e h) (λ (m : j < i). c.none j m) (eq-or-lt_of_le (le_of_suc-le-suc (rw (add-one i) at k)));
-      }
 
   pub cleared_stop : (i : ℕ) (r : Answer) → Cleared i → i < n → (t i).0 ≡ true → is_done (t i).1 ≡ false → r ≡ (t i).1 → r ≡ first_of (tab n t)
   cleared_stop i r c l h d e = e ∙ tab_first n i t l c.none h d

@@ -41,22 +41,6 @@ module _ (sh : Shape) (r : InRange sh) where
   offset_small zero = let h = count_high sh in omega arith
   offset_small (suc i) = let h = offset_small i in let s = size_small i in omega arith
 
--- a table's size, by the tests of its number
-module _ (sh : Shape) (i : ℕ) where
-  pub size_0 : i ≡ 0 → sh.states * sh.states ≡ size sh i
-  unfolding size
-  size_0 e = rw e
-
-  pub size_1 : i ≡ 1 → sh.states * sh.symbols ≡ size sh i
-  unfolding size
-  size_1 e = rw e
-
-pub size_2 : (sh : Shape) (i : ℕ) → (i ≡ 0 → ⊥) → (i ≡ 1 → ⊥) → sh.states ≡ size sh i
-unfolding size
-size_2 sh zero h k = absurd (h refl)
-size_2 sh (suc zero) h k = absurd (k refl)
-size_2 sh (suc (suc i)) h k = refl
-
 -- a loop that adds up the sizes
 module _ (sh : Shape) where
   pub offset_none : 8 + count sh * 16 ≡ offset sh 0
@@ -70,3 +54,6 @@ module _ (sh : Shape) where
 -- two shapes with the same fields
 pub shape_same : (a b : Shape) → a.states ≡ b.states → a.symbols ≡ b.symbols → a.ends ≡ b.ends → a ≡ b
 shape_same a b p q r = λ i. record { states = p i; symbols = q i; ends = r i }
+
+-- for `offset`
+pub ruleset offsets = (size_small, offset_small, offset_more, offset_none)

@@ -1,9 +1,8 @@
 -- The checks of a file in their order, by what the code found of the shape that it read.
 use Prim.Native.Nat.{ℕ, ◌≤◌, ◌<◌}
 use mathlib.Core.Path.{◌≡◌, sym, ap, ◌∙◌, subst}
-use mathlib.Core.Bool.{Bool, true, false, not, ◌||◌}
+use mathlib.Core.Bool.{Bool, true, false, not}
 use mathlib.Core.List.{List, append_assoc}
-use lib.Dec.{ltb}
 use lib.ListN.{length}
 use borrow.Author.Tests.{lt-ltb, le-ltb}
 use Rattle.answer.specs.Answer.{is_done, refuse}
@@ -14,7 +13,6 @@ use Rattle.checks.specs.Checks.{shape_tests}
 use Rattle.checks.proofs.Shapes.{shape_in_range}
 use Rattle.checks.proofs.Slots.{shape_refuses}
 use Rattle.file_layout.specs.Checks.{file_tests, first_wrong, layout_tests, pattern, some_wrong, sum_tests}
-use Rattle.file_layout.specs.Layout.{count, offset}
 use Rattle.file_layout.specs.Reading.{shape_of}
 use Rattle.file_layout.specs.inner.Whole.{Whole}
 use Rattle.file_layout.proofs.Accepting.{layout_clear, layout_wrong}
@@ -37,30 +35,24 @@ module _ (f : List ℕ) (r : Answer) where
         passes _ _ _ _ (le-ltb _ _ l)
         (refused_by b r (shape_tests (shape_of f)) is own-from (ap not h) _ ∙ ap first_of (sym (append_assoc (shape_tests (shape_of f)) _ (sum_tests f))))
 
-    -- what the test of the layout is, with the length that the shape gives
-    wrong_is : (p w : ℕ) (b : Bool) → p ≡ first_wrong (pattern sh) f → w ≡ offset sh (count sh) → b ≡ (ltb p w || ltb p (length f))
-        → some_wrong (pattern sh) f ≡ b
-    wrong_is p w b e h k = sym (k ∙ ap (λ (n : ℕ). ltb p n || ltb p (length f)) (h ∙ sym (length_pattern sh)) ∙ ap
-        (λ (q : ℕ). ltb q (length (pattern sh)) || ltb q (length f)) e)
+    -- the layout's test is one of the shape that was read
+    wrong_is : (b : Bool) → some_wrong (pattern sh) f ≡ b → some_wrong (pattern (shape_of f)) f ≡ b
+    wrong_is b e = ap (λ (s : Shape). some_wrong (pattern s) f) (sym own) ∙ e
 
-    pub file_layout : InRange sh → (p w : ℕ) → p ≡ first_wrong (pattern sh) f → w ≡ offset sh (count sh) → true ≡ (ltb p w || ltb p (length f))
-        → r ≡ refuse BadLayout 0 p → r ≡ first_of (file_tests f)
-    file_layout i p w e h k q =
+    pub file_layout : InRange sh → (place : ℕ) → some_wrong (pattern sh) f ≡ true → place ≡ first_wrong (pattern sh) f
+        → r ≡ refuse BadLayout 0 place → r ≡ first_of (file_tests f)
+    file_layout i place wrong e q =
         q
-        ∙ layout_wrong f p l (subst InRange own i) (ap (λ (s : Shape). first_wrong (pattern s) f) (sym own) ∙ sym e)
-        (ap (λ (s : Shape). some_wrong (pattern s) f) (sym own) ∙ wrong_is p w true e h k)
+        ∙ layout_wrong f place l (subst InRange own i) (ap (λ (s : Shape). first_wrong (pattern s) f) (sym own) ∙ sym e) (wrong_is true wrong)
 
-    pub file_whole : InRange sh → (p w : ℕ) → p ≡ first_wrong (pattern sh) f → w ≡ offset sh (count sh) → false ≡ (ltb p w || ltb p (length f))
-        → Whole sh f
-    file_whole i p w e h k =
-        record { own = own; in_range = i; long = fits_length (pattern sh) f (fits_of (pattern sh) f (wrong_is p w false e h k)) ∙ length_pattern sh }
+    pub file_whole : InRange sh → some_wrong (pattern sh) f ≡ false → Whole sh f
+    file_whole i right =
+        record { own = own; in_range = i; long = fits_length (pattern sh) f (fits_of (pattern sh) f right) ∙ length_pattern sh }
 
-    pub file_sums : InRange sh → (p w : ℕ) → p ≡ first_wrong (pattern sh) f → w ≡ offset sh (count sh) → false ≡ (ltb p w || ltb p (length f))
-        → r ≡ first_of (sum_tests f) → r ≡ first_of (file_tests f)
-    file_sums i p w e h k q =
+    pub file_sums : InRange sh → some_wrong (pattern sh) f ≡ false → r ≡ first_of (sum_tests f) → r ≡ first_of (file_tests f)
+    file_sums i right q =
         goes_on (layout_tests f) (sum_tests f) r q
-        (layout_clear f l (subst InRange own i) (fits_of (pattern (shape_of f)) f (ap (λ (s : Shape). some_wrong (pattern s) f) (sym own) ∙ wrong_is p
-        w false e h k)))
+        (layout_clear f l (subst InRange own i) (fits_of (pattern (shape_of f)) f (wrong_is false right)))
 
 -- 1 and 2 are passed
 pub file_range : (sh : Shape) (b : Bool) (r : Answer) → b ≡ is_done r → r ≡ first_of (shape_tests sh) → b ≡ true → InRange sh

@@ -2,6 +2,7 @@ pub mod Bounds
 pub mod ByteAt
 pub mod Fits
 pub mod Whole
+pub mod Words
 pub mod Within
 pub mod Accepting
 pub mod Scanned

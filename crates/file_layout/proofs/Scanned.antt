@@ -4,14 +4,15 @@ use mathlib.Core.Path.{◌≡◌, refl, sym, ap, ◌∙◌}
 use mathlib.Core.Bool.{true, false}
 use mathlib.Core.List.{List, [], ◌∷◌}
 use mathlib.Core.Logic.{◌⊎◌, inl, inr, ⊎_elim}
-use native.Mathlib.Numerals.{add-one}
-use native.Mathlib.Nat.{not-suc-le-zero, le_of_suc-le-suc, eq-or-lt_of_le}
+use native.Mathlib.Nat.{not-suc-le-zero, le_of_suc-le-suc}
 use native.Mathlib.Omega.{arith}
 use lib.Dec.{eqb}
 use lib.ListN.{length, get_or}
+use Rattle.std.proofs.Common.{min}
+use Rattle.std.proofs.lemmas.Bool.Decides.{nat_tests}
 use Rattle.model.specs.declared.Shape.{Shape}
 use Rattle.lists.proofs.Parts.{le_or_lt}
-use Rattle.file_layout.specs.Checks.{Demand, any, first_wrong, meets, pattern}
+use Rattle.file_layout.specs.Checks.{Demand, any, first_wrong, meets, pattern, some_wrong}
 use Rattle.file_layout.specs.Layout.{count, first, label, offset}
 use Rattle.file_layout.proofs.Whole.{demand_body, demand_first, demand_label, demand_sum, length_pattern, offset_up}
 
@@ -70,42 +71,42 @@ module _ (sh : Shape) (f : List ℕ) where
     pub inside : p ≤ length f
     pub right : (q : ℕ) → q < p → meets (get_or (pattern sh) q any) (get_or f q 0) ≡ true
 
-  pub met_none : Met 0
-  met_none = record { within = omega arith; inside = omega arith; right = λ (q : ℕ) h. absurd (not-suc-le-zero h) }
-
-  pub met_more : (p : ℕ) → Met p → p < 8 + count sh * 16 → p < length f → meets (get_or (pattern sh) p any) (get_or f p 0) ≡ true → Met (p + 1)
-  met_more p m l k t =
-      record {
-        within = omega arith;
-        inside = omega arith;
-        right = λ (q : ℕ) h. ⊎_elim (λ (e : q ≡ p). rw e t) (λ (n : q < p). m.right q n) (eq-or-lt_of_le (le_of_suc-le-suc (rw (add-one p) at h)));
-      }
-
   entries_in : 8 + count sh * 16 ≤ length (pattern sh)
   entries_in = let z : offset sh 0 ≡ 8 + count sh * 16 = unfold offset in refl in omega
       (arith, length_pattern sh, offset_up sh 0 (count sh) (omega arith))
 
-  -- a wrong byte, and the end of the file
-  pub met_stop : (p : ℕ) → Met p → p < 8 + count sh * 16 → meets (get_or (pattern sh) p any) (get_or f p 0) ≡ false → p ≡ first_wrong (pattern sh) f
-  met_stop p m l t = wrong_at (pattern sh) f p m.right (omega (arith, entries_in)) m.inside (inr (inr t))
+  -- a wrong byte
+  pub met_stop : (p : ℕ) → Met p → p < 8 + count sh * 16 → p < length f → meets (get_or (pattern sh) p any) (get_or f p 0) ≡ false
+      → (some_wrong (pattern sh) f ≡ true) × (p ≡ first_wrong (pattern sh) f)
+  met_stop p m l k t =
+      let e = wrong_at (pattern sh) f p m.right (omega (arith, entries_in)) m.inside (inr (inr t)) in
+      (grind (arith, nat_tests), e)
 
-  pub met_end : (p : ℕ) → Met p → p ≡ length f → p ≡ first_wrong (pattern sh) f
-  met_end p m e = wrong_at (pattern sh) f p m.right (omega (arith, entries_in, m.within)) m.inside (inr (inl e))
+  -- ---- past the entries nothing is wrong but the length
+  module _ (p : ℕ) (m : Met p) (last : min (8 + count sh * 16) (length f) ≤ p) where
+    all_right : (q : ℕ) → q < length f → meets (get_or (pattern sh) q any) (get_or f q 0) ≡ true
+    all_right q t = ⊎_elim (λ (h : p ≤ q). beyond h) (λ (h : q < p). m.right q h) (le_or_lt p q)
+      where
+        beyond : p ≤ q → meets (get_or (pattern sh) q any) (get_or f q 0) ≡ true
+        beyond h =
+            let e : q ≡ 8 + (count sh * 16 + (q - (8 + count sh * 16))) = omega arith in
+            let d = ap (λ (k : ℕ). get_or (pattern sh) k any) e ∙ demand_body sh (q - (8 + count sh * 16)) in
+            rw d
 
-  -- past the entries nothing is wrong but the length
-  body_right : (p : ℕ) → Met p → 8 + count sh * 16 ≤ p → (q : ℕ) → meets (get_or (pattern sh) q any) (get_or f q 0) ≡ true
-  body_right p m l q = ⊎_elim (λ (h : p ≤ q). beyond h) (λ (h : q < p). m.right q h) (le_or_lt p q)
-    where
-      beyond : p ≤ q → meets (get_or (pattern sh) q any) (get_or f q 0) ≡ true
-      beyond h =
-          let e : q ≡ 8 + (count sh * 16 + (q - (8 + count sh * 16))) = omega arith in
-          let d = ap (λ (k : ℕ). get_or (pattern sh) k any) e ∙ demand_body sh (q - (8 + count sh * 16)) in
-          rw d
+    pub met_length : (w : ℕ) → w ≡ offset sh (count sh) → first_wrong (pattern sh) f ≡ min w (length f)
+    met_length w e =
+        let long = length_pattern sh in
+        sym
+        (wrong_at (pattern sh) f (min w (length f)) (λ (q : ℕ) t. all_right q (omega arith)) (omega arith) (omega arith)
+        (⊎_elim (λ (h : w ≤ length f). inl (omega arith)) (λ (h : length f < w). inr (inl (omega arith))) (le_or_lt w (length f))))
 
-  pub met_short : (p w : ℕ) → Met p → 8 + count sh * 16 ≤ p → w ≡ offset sh (count sh) → length f < w → length f ≡ first_wrong (pattern sh) f
-  met_short p w m l e h = wrong_at (pattern sh) f (length f) (λ (q : ℕ) t. body_right p m l q) (omega (arith, length_pattern sh)) (omega arith)
-      (inr (inl refl))
+    pub met_whole : (w : ℕ) → w ≡ offset sh (count sh) → length f ≡ w → some_wrong (pattern sh) f ≡ false
+    met_whole w e h = let k = met_length w e in let long = length_pattern sh in grind (arith, nat_tests)
 
-  pub met_long : (p w : ℕ) → Met p → 8 + count sh * 16 ≤ p → w ≡ offset sh (count sh) → w ≤ length f → w ≡ first_wrong (pattern sh) f
-  met_long p w m l e h = wrong_at (pattern sh) f w (λ (q : ℕ) t. body_right p m l q) (omega (arith, length_pattern sh)) h
-      (inl (e ∙ sym (length_pattern sh)))
+    pub met_other : (w : ℕ) → w ≡ offset sh (count sh) → (length f ≡ w → ⊥) → some_wrong (pattern sh) f ≡ true
+    met_other w e h = let k = met_length w e in let long = length_pattern sh in grind (arith, nat_tests)
+
+-- for `is_met`, and for `first_wrong`
+pub ruleset demanded = (met_first, met_sum, met_label)
+
+pub ruleset scanned = (met_stop, met_length, met_whole, met_other)

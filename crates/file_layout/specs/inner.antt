@@ -1,2 +1,3 @@
 -- What only inner functions ask.
 pub mod Whole
+pub mod Found

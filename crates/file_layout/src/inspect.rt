@@ -1,13 +1,14 @@
 // What is wrong with a file, if anything: its layout (1, 2, 13), its sums (14) and its words (7). Nothing is written.
-ghost use Rattle.std.specs.Prelude.{◌≡◌, not, ◌||◌, ◌+◌, ◌*◌, ◌≤◌, ◌<◌, eqb, ltb, length, get_or};
+ghost use Rattle.std.specs.Prelude.{◌≡◌, not, ◌+◌, ◌*◌, ◌≤◌, ◌<◌, eqb, length, get_or};
 ghost use Rattle.lists.specs.Lists.{part, first_bad, some_bad};
 ghost use Rattle.little_endian.specs.Bytes.{words, sum};
 ghost use Rattle.answer.specs.Checks.{first_of};
 ghost use Rattle.model.specs.Good.{good_bits};
 ghost use Rattle.file_layout.specs.Layout as Spec;
 ghost use Rattle.file_layout.specs.Reading.{shape_of, body_at, sum_of};
-ghost use Rattle.file_layout.specs.Checks.{any, meets, pattern, first_wrong, sum_tests, file_tests, word_tests};
+ghost use Rattle.file_layout.specs.Checks.{any, meets, pattern, first_wrong, some_wrong, sum_tests, file_tests, word_tests};
 ghost use Rattle.model.specs.Accepted.{InRange};
+ghost use Rattle.file_layout.specs.inner.Found.{Found};
 ghost use Rattle.file_layout.specs.inner.Whole.{Whole};
 
 use crate::layout::{count, first_byte, label_byte, offset, size};
@@ -18,6 +19,7 @@ use little_endian::{sum_of, two_bytes_at, word_at};
 use model::{Shape, is_good_word, is_set, mark_of_word};
 
 // The shape that the first four numbers give.
+#[tactic(auto, unfolding(crate::specs::Reading::shape_of))]
 pub fn shape_of(file: &[u8]) -> Shape
     requires { 8 ≤ length file.now }
     ensures { result ≡ shape_of file.now }
@@ -30,6 +32,7 @@ pub fn shape_of(file: &[u8]) -> Shape
 }
 
 // Whether byte b is right at place p, before the bodies.
+#[tactic(auto, using(crate::proofs::Scanned::demanded))]
 fn is_met(shape: Shape, p: usize, b: u8) -> bool
     requires { InRange shape × (p < 8 + Spec.count shape * 16) }
     ensures { result ≡ meets (get_or (pattern shape) p any) b }
@@ -39,43 +42,30 @@ fn is_met(shape: Shape, p: usize, b: u8) -> bool
     }
     let i = (p - 8) / 16;
     let j = (p - 8) % 16;
-    if 8 <= j {
-        return true;
-    }
-    label_byte(shape, i, j) == b
+    8 <= j || label_byte(shape, i, j) == b
 }
 
-// The first wrong byte, or the shorter length.
-fn first_wrong(shape: Shape, file: &[u8]) -> usize
+// The place of the first byte that is wrong, missing or left over.
+#[tactic(auto, using(crate::proofs::Scanned::scanned))]
+fn first_wrong(shape: Shape, file: &[u8]) -> Option<usize>
     requires { InRange shape }
-    ensures { result ≡ first_wrong (pattern shape) file.now }
+    ensures { Found (some_wrong (pattern shape) file.now) (first_wrong (pattern shape) file.now) result }
 {
     let known = 8 + count(shape) * 16;
-    let mut p = 0;
-    while p < known {
-        if p == file.len() {
-            return p;
-        }
+    for p in 0..known.min(file.len()) {
         if !is_met(shape, p, file[p]) {
-            return p;
+            return Some(p);
         }
-        p += 1;
     }
     let whole = offset(shape, count(shape));
-    if file.len() < whole {
-        return file.len();
+    if file.len() == whole {
+        return None;
     }
-    whole
-}
-
-// Whether the first wrong place p is before the end that the shape gives, or before the file's own.
-fn is_before(p: usize, whole: usize, len: usize) -> bool
-    ensures { result ≡ (ltb p whole || ltb p len) }
-{
-    p < whole || p < len
+    Some(whole.min(file.len()))
 }
 
 // Whether the sum of table i is right. The caller shows that the layout is right.
+#[tactic(auto, using(crate::proofs::Within::standing), unfolding(crate::specs::Reading::body_at, crate::specs::Reading::sum_of))]
 fn is_summed(shape: Shape, file: &[u8], i: usize) -> bool
     requires { Whole shape file.now × (i < Spec.count shape) }
     ensures { result ≡ eqb (sum (body_at shape file.now i)) (sum_of file.now i) }
@@ -89,13 +79,10 @@ fn check_sums(shape: Shape, file: &[u8]) -> Answer
     requires { Whole shape file.now }
     ensures { result ≡ first_of (sum_tests file.now) }
 {
-    let n = count(shape);
-    let mut i = 0;
-    while i < n {
+    for i in 0..count(shape) {
         if !is_summed(shape, file, i) {
             return refused(Refusal::BadSum, i as u8, 0);
         }
-        i += 1;
     }
     done(minus_infinity())
 }
@@ -113,52 +100,51 @@ pub fn check_file(file: &[u8]) -> Answer
     if !is_done(checked) {
         return checked;
     }
-    let p = first_wrong(shape, file);
-    if is_before(p, offset(shape, count(shape)), len) {
-        return refused(Refusal::BadLayout, 0, p);
+    if let Some(place) = first_wrong(shape, file) {
+        return refused(Refusal::BadLayout, 0, place);
     }
     check_sums(shape, file)
 }
 
 // Whether n words from byte `at` on are good. No word has a branch of its own: the marks are gathered, and their top bit is looked at once.
+#[tactic(auto, using(crate::proofs::Words::gathered_marks))]
 fn are_good_words(file: &[u8], at: usize, n: usize) -> bool
     requires { at + 8 * n ≤ length file.now }
     ensures { result ≡ not (some_bad good_bits (words n (part at (8 * n) file.now))) }
 {
     let mut marks = u64::MAX;
-    let mut i = 0;
-    while i < n {
+    for i in 0..n {
         marks &= mark_of_word(word_at(file, at + 8 * i));
-        i += 1;
     }
     is_set(marks)
 }
 
-// The first of n words from byte `at` on that is not good, or n.
-fn first_bad_word(file: &[u8], at: usize, n: usize) -> usize
+// The first of n words from byte `at` on that is not good.
+#[tactic(auto, using(crate::proofs::Words::good_all))]
+fn first_bad_word(file: &[u8], at: usize, n: usize) -> Option<usize>
     requires { at + 8 * n ≤ length file.now }
-    ensures { result ≡ first_bad good_bits (words n (part at (8 * n) file.now)) }
+    ensures { let all = words n (part at (8 * n) file.now) in
+        Found (some_bad good_bits all) (first_bad good_bits all) result }
 {
-    let mut i = 0;
-    while i < n {
+    for i in 0..n {
         if !is_good_word(word_at(file, at + 8 * i)) {
-            return i;
+            return Some(i);
         }
-        i += 1;
     }
-    i
+    None
 }
 
-// The first word of body i that is not good, or its size: the place is searched only where one is. The caller shows that the layout is
-// right.
-fn first_bad_of(shape: Shape, file: &[u8], i: usize) -> usize
+// The first word of body i that is not good: the place is searched only where one is. The caller shows that the layout is right.
+#[tactic(auto, using(crate::proofs::Within::standing), unfolding(crate::specs::Reading::body_at))]
+fn first_bad_of(shape: Shape, file: &[u8], i: usize) -> Option<usize>
     requires { Whole shape file.now × (i < Spec.count shape) }
-    ensures { result ≡ first_bad good_bits (body_at shape file.now i) }
+    ensures { let all = body_at shape file.now i in
+        Found (some_bad good_bits all) (first_bad good_bits all) result }
 {
     let at = offset(shape, i);
     let n = size(shape, i);
     if are_good_words(file, at, n) {
-        return n;
+        return None;
     }
     first_bad_word(file, at, n)
 }
@@ -168,14 +154,10 @@ pub fn check_words(shape: Shape, file: &[u8]) -> Answer
     requires { Whole shape file.now }
     ensures { result ≡ first_of (word_tests file.now) }
 {
-    let n = count(shape);
-    let mut i = 0;
-    while i < n {
-        let k = first_bad_of(shape, file, i);
-        if k < size(shape, i) {
-            return refused(Refusal::NotGood, i as u8, k);
+    for i in 0..count(shape) {
+        if let Some(place) = first_bad_of(shape, file, i) {
+            return refused(Refusal::NotGood, i as u8, place);
         }
-        i += 1;
     }
     done(minus_infinity())
 }

@@ -10,74 +10,58 @@ use model::Shape;
 pub fn count(shape: Shape) -> usize
     ensures { result ≡ Spec.count shape }
 {
-    if shape.ends {
-        return 4;
-    }
-    3
+    if shape.ends { 4 } else { 3 }
 }
 
 // The end flag, as a number.
 pub fn flag(shape: Shape) -> usize
     ensures { result ≡ Spec.flag shape }
 {
-    if shape.ends {
-        return 1;
-    }
-    0
+    usize::from(shape.ends)
 }
 
 // The words of table i.
+#[tactic(auto, unfolding(crate::specs::Layout::size))]
 pub fn size(shape: Shape, i: usize) -> usize
     requires { InRange shape }
     ensures { result ≡ Spec.size shape i }
 {
-    if i == 0 {
-        return shape.states * shape.states;
+    match i {
+        0 => shape.states * shape.states,
+        1 => shape.states * shape.symbols,
+        _ => shape.states,
     }
-    if i == 1 {
-        return shape.states * shape.symbols;
-    }
-    shape.states
 }
 
 // The byte at which body i starts. Where the one after the last would start, the file ends.
+#[tactic(auto, using(crate::proofs::Bounds::offsets))]
 pub fn offset(shape: Shape, i: usize) -> usize
     requires { InRange shape × (i ≤ 4) }
     ensures { result ≡ Spec.offset shape i }
 {
     let mut at = 8 + count(shape) * 16;
-    let mut k = 0;
-    while k < i {
+    for k in 0..i {
         at += 8 * size(shape, k);
-        k += 1;
     }
     at
 }
 
 // Byte p of the first four numbers.
+#[tactic(auto, using(crate::proofs::ByteAt::byte_of_first))]
 pub(crate) fn first_byte(shape: Shape, p: usize) -> u8
     requires { p < 8 }
     ensures { result ≡ get_or (Spec.first shape) p 0 }
 {
-    if p < 2 {
-        return byte_of(shape.states as u64, p);
-    }
-    if p < 4 {
-        return byte_of(shape.symbols as u64, p - 2);
-    }
-    if p < 6 {
-        return byte_of(flag(shape) as u64, p - 4);
-    }
-    byte_of(count(shape) as u64, p - 6)
+    let numbers = [shape.states, shape.symbols, flag(shape), count(shape)];
+    byte_of(numbers[p / 2] as u64, p % 2)
 }
 
 // Byte j of the label of entry i.
+#[tactic(auto, using(crate::proofs::ByteAt::label_bytes))]
 pub(crate) fn label_byte(shape: Shape, i: usize, j: usize) -> u8
     requires { InRange shape × (i < 4) × (j < 8) }
     ensures { result ≡ get_or (Spec.label shape i) j 0 }
 {
-    if j < 4 {
-        return byte_of(i as u64, j);
-    }
-    byte_of(offset(shape, i) as u64, j - 4)
+    let number = if j < 4 { i } else { offset(shape, i) };
+    byte_of(number as u64, j % 4)
 }

@@ -1,5 +1,4 @@
 -- `file_layout::inspect::check_sums` meets its contract. The loop's invariant, `Cleared`: no test below i found fault.
-use Prim.Native.Nat.{◌-◌}
 use Rattle.file_layout.specs.Checks.{sum_test}
 use Rattle.file_layout.specs.Layout.{count}
 use Rattle.file_layout.specs.Reading.{shape_of}
@@ -8,6 +7,3 @@ use Rattle.file_layout.proofs.inspect.check_sums.Given as goal
 
 abbrev pub invariant-loop-i : goal.invariant-loop-i
 invariant-loop-i l = Cleared (count (shape_of l.file)) (sum_test l.file) l.i
-
-abbrev pub decreases-loop-i : goal.decreases-loop-i
-decreases-loop-i l = l.n - l.i

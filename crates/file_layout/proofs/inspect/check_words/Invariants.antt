@@ -1,5 +1,4 @@
 -- `file_layout::inspect::check_words` meets its contract. The loop's invariant, `Cleared`: no test below i found fault.
-use Prim.Native.Nat.{◌-◌}
 use Rattle.file_layout.specs.Checks.{word_test}
 use Rattle.file_layout.specs.Layout.{count}
 use Rattle.file_layout.specs.Reading.{shape_of}
@@ -8,6 +7,3 @@ use Rattle.file_layout.proofs.inspect.check_words.Given as goal
 
 abbrev pub invariant-loop-i : goal.invariant-loop-i
 invariant-loop-i l = Cleared (count (shape_of l.file)) (word_test l.file) l.i
-
-abbrev pub decreases-loop-i : goal.decreases-loop-i
-decreases-loop-i l = l.n - l.i
