@@ -1,7 +1,7 @@
 -- Laws of a list of tests: which part of a list answers, and what is known once none finds fault.
 use Prim.Native.Nat.{ℕ, ◌<◌}
 use mathlib.Core.Path.{◌≡◌, refl, sym, ap, subst, ◌∙◌}
-use mathlib.Core.Bool.{Bool, true, false, cond, not}
+use mathlib.Core.Bool.{Bool, true, false, true≢false, cond, not}
 use mathlib.Core.List.{[], ◌∷◌, ◌++◌}
 use native.Mathlib.Omega.{arith}
 use lib.Dec.{T, ltb, ltb→lt}
@@ -208,7 +208,7 @@ pub unfaulted : ◌≡◌ {A = Result Unit Answer} (Ok tt) (first_fault [])
 unfolding first_fault
 unfaulted = refl
 
-all_clear : (ts : Tests) → Clear ts → first_fault ts ≡ Ok tt
+pub all_clear : (ts : Tests) → Clear ts → first_fault ts ≡ Ok tt
 unfolding first_fault Clear
 all_clear [] c = refl
 all_clear (t ∷ ts) c = rw c.0 (all_clear ts c.1)
@@ -229,3 +229,11 @@ pub fault_left_out : (a b c : Tests) → Clear b → first_fault (a ++ (b ++ c))
 unfolding first_fault
 fault_left_out [] b c h = sym (fault_goes_on b c tt (first_fault c) (all_clear b h) refl)
 fault_left_out (t ∷ a) b c h = ap (cond t.0 (Err t.1)) (fault_left_out a b c h)
+
+-- a refusal that the list of tests answers is what the code's check has
+pub as_fault : (ts : Tests) → (x : Answer) → x ≡ first_of ts → is_done x ≡ false → Err x ≡ first_fault ts
+as_fault ts x e d = go (first_fault ts) refl
+  where
+    go : (r : Result Unit Answer) → first_fault ts ≡ r → Err x ≡ r
+    go (Ok u) h = absurd (true≢false (sym (passes_too ts u h) ∙ ap is_done (sym e) ∙ d))
+    go (Err y) h = ap Err (e ∙ sym (found ts y h))

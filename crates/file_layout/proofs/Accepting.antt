@@ -12,8 +12,9 @@ use Rattle.floats.specs.Float.{minus_infinity}
 use Rattle.lists.specs.Lists.{tab}
 use Rattle.little_endian.specs.Bytes.{sum}
 use Rattle.answer.specs.Answer.{done, is_done, refuse}
-use Rattle.answer.specs.Checks.{Tests, first_of}
-use Rattle.answer.proofs.Checks.{Clear, Refuses, clear, clear_both, clear_left, clear_right, ends, finds, goes_on, refuse_both, stops, passes}
+use Rattle.std.specs.Prelude.{Ok, Err}
+use Rattle.answer.specs.Checks.{Tests, first_of, first_fault}
+use Rattle.answer.proofs.Checks.{Clear, Refuses, clear, clear_both, clear_left, clear_right, all_clear, as_fault, finds, goes_on, refuse_both, stops, passes}
 use Rattle.model.specs.Accepted.{InRange}
 use Rattle.checks.specs.Checks.{shape_tests}
 use Rattle.checks.proofs.Shapes.{shape_clear, shape_in_range}
@@ -62,13 +63,12 @@ module _ (n : ℕ) (t : ℕ → Bool × Answer) where
     pub within : i ≤ n
     pub none : (j : ℕ) → j < i → (t j).0 ≡ false
 
-  pub cleared_stop : (i : ℕ) (r : Answer) → Cleared i → i < n → (t i).0 ≡ true → is_done (t i).1 ≡ false → r ≡ (t i).1 → r ≡ first_of (tab n t)
-  cleared_stop i r c l h d e = e ∙ tab_first n i t l c.none h d
+  pub cleared_stop : (i : ℕ) (r : Answer) → Cleared i → i < n → (t i).0 ≡ true → is_done (t i).1 ≡ false → r ≡ (t i).1
+      → Err r ≡ first_fault (tab n t)
+  cleared_stop i r c l h d e = as_fault (tab n t) r (e ∙ tab_first n i t l c.none h d) (ap is_done e ∙ d)
 
-  pub cleared_all : (i : ℕ) (v : Float) (r : Answer) → Cleared i → n ≤ i → v ≡ minus_infinity → r ≡ done v → r ≡ first_of (tab n t)
-  cleared_all i v r c l e h =
-      let clear : Clear (tab n t) = clear_tab n t (λ (j : ℕ) k. c.none j (omega arith)) in
-      goes_on (tab n t) [] r (ends v r e h) clear ∙ ap first_of (append-nil (tab n t))
+  pub cleared_all : (i : ℕ) → Cleared i → n ≤ i → Ok tt ≡ first_fault (tab n t)
+  cleared_all i c l = sym (all_clear (tab n t) (clear_tab n t (λ (j : ℕ) k. c.none j (omega arith))))
 
 -- each test has a refusal to give
 pub layout_refuses : (f : List ℕ) → Refuses (layout_tests f)

@@ -2,7 +2,7 @@
 ghost use Rattle.std.specs.Prelude.{◌≡◌, not, ◌+◌, ◌*◌, ◌≤◌, ◌<◌, eqb, length, get_or};
 ghost use Rattle.lists.specs.Lists.{part, first_bad, some_bad};
 ghost use Rattle.little_endian.specs.Bytes.{words, sum};
-ghost use Rattle.answer.specs.Checks.{first_of};
+ghost use Rattle.answer.specs.Checks.{first_fault};
 ghost use Rattle.model.specs.Good.{good_bits};
 ghost use Rattle.file_layout.specs.Layout as Spec;
 ghost use Rattle.file_layout.specs.Reading.{shape_of, body_at, sum_of};
@@ -12,9 +12,8 @@ ghost use Rattle.file_layout.specs.inner.Found.{Found};
 ghost use Rattle.file_layout.specs.inner.Whole.{Whole};
 
 use crate::layout::{count, first_byte, label_byte, offset, size};
-use answer::{Answer, Refusal, done, is_done, refused};
+use answer::{Checked, Refusal, refused};
 use checks::check_shape;
-use floats::minus_infinity;
 use little_endian::{sum_of, two_bytes_at, word_at};
 use model::{Shape, is_good_word, is_set, mark_of_word};
 
@@ -75,33 +74,30 @@ fn is_summed(shape: Shape, file: &[u8], i: usize) -> bool
 }
 
 // Refusal 14. The caller shows that the layout is right.
-fn check_sums(shape: Shape, file: &[u8]) -> Answer
+fn check_sums(shape: Shape, file: &[u8]) -> Checked
     requires { Whole shape file.now }
-    ensures { result ≡ first_of (sum_tests file.now) }
+    ensures { result ≡ first_fault (sum_tests file.now) }
 {
     for i in 0..count(shape) {
         if !is_summed(shape, file, i) {
-            return refused(Refusal::BadSum, i as u8, 0);
+            return Err(refused(Refusal::BadSum, i as u8, 0));
         }
     }
-    done(minus_infinity())
+    Ok(())
 }
 
 // Refusals 1, 2, 13 and 14.
-pub fn check_file(file: &[u8]) -> Answer
-    ensures { result ≡ first_of (file_tests file.now) }
+pub fn check_file(file: &[u8]) -> Checked
+    ensures { result ≡ first_fault (file_tests file.now) }
 {
     let len = file.len();
     if len < 8 {
-        return refused(Refusal::BadLayout, 0, len);
+        return Err(refused(Refusal::BadLayout, 0, len));
     }
     let shape = shape_of(file);
-    let checked = check_shape(shape);
-    if !is_done(checked) {
-        return checked;
-    }
+    check_shape(shape)?;
     if let Some(place) = first_wrong(shape, file) {
-        return refused(Refusal::BadLayout, 0, place);
+        return Err(refused(Refusal::BadLayout, 0, place));
     }
     check_sums(shape, file)
 }
@@ -150,14 +146,14 @@ fn first_bad_of(shape: Shape, file: &[u8], i: usize) -> Option<usize>
 }
 
 // Refusal 7. The caller shows that the layout is right.
-pub fn check_words(shape: Shape, file: &[u8]) -> Answer
+pub fn check_words(shape: Shape, file: &[u8]) -> Checked
     requires { Whole shape file.now }
-    ensures { result ≡ first_of (word_tests file.now) }
+    ensures { result ≡ first_fault (word_tests file.now) }
 {
     for i in 0..count(shape) {
         if let Some(place) = first_bad_of(shape, file, i) {
-            return refused(Refusal::NotGood, i as u8, place);
+            return Err(refused(Refusal::NotGood, i as u8, place));
         }
     }
-    done(minus_infinity())
+    Ok(())
 }

@@ -13,4 +13,4 @@ returns-then-not-is_summed c =
 
 pub returns : goal.returns
 unfolding sum_tests
-returns c = cleared_all _ _ _ _ _ c.loop-i.invariant (grind (arith, common_steps)) c.minus_infinity.ensures c.done.ensures
+returns c = cleared_all _ _ _ c.loop-i.invariant (grind (arith, common_steps))

@@ -11,4 +11,4 @@ returns-in-Some c =
 
 pub returns : goal.returns
 unfolding word_tests
-returns c = cleared_all _ _ _ _ _ c.loop-i.invariant (grind (arith, common_steps)) c.minus_infinity.ensures c.done.ensures
+returns c = cleared_all _ _ _ c.loop-i.invariant (grind (arith, common_steps))
