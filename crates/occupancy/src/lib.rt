@@ -7,12 +7,13 @@ pub mod arc;
 pub mod state;
 pub mod symbol;
 
-use model::Shape;
+use model::Lent;
 
-// One pass: the model's shape, the number of its samples, and the likelihood of them all.
+// One pass: what it is lent, the rows of both walks, and the likelihood of all samples.
 #[derive(Clone, Copy)]
-pub struct Pass {
-    pub shape: Shape,
-    pub samples: usize,
+pub struct Pass<'a> {
+    pub lent: Lent<'a>,
+    pub alpha: &'a [f64],
+    pub beta: &'a [f64],
     pub probx: f64,
 }

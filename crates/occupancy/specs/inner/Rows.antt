@@ -2,47 +2,53 @@
 use Rattle.std.specs.Prelude.{ℕ, ◌+◌, ◌*◌, ◌<◌, ◌≤◌, ◌≡◌, List, length, Float}
 use Rattle.floats.specs.Float.{at, minus_infinity}
 use Rattle.lists.specs.inner.Holds as Front
+use Rattle.model.specs.Lent.{Lent, S, M, T, behind}
 use Rattle.model.specs.Model.{transition_of, emission_of, sample_at}
 use Rattle.occupancy.specs.declared.Pass.{Pass}
 use Rattle.occupancy.specs.Occupancy.{Walks, arc, arc_sum}
 
--- the walks as their rows lie in memory: T rows of S
-abbrev pub rows_of : Pass → List Float → List Float → Walks
-rows_of p alpha beta =
-    record {
-      count = p.samples;
-      alpha = λ (t i : ℕ). at alpha (t * p.shape.states + i);
-      beta = λ (r i : ℕ). at beta (r * p.shape.states + i);
-      probx = p.probx;
-    }
+module _ (p : Pass) where
+  -- what the pass is lent
+  abbrev pub lent_of : Lent
+  lent_of = behind p.lent
 
--- both walks have a row for each sample, of which there is one at least
-pub record Standing (p : Pass) (alpha beta : List Float) : Type 0 where
-  pub few : p.shape.states ≤ 64
-  pub some : 0 < p.samples
-  pub alpha_room : p.samples * p.shape.states ≤ length alpha
-  pub beta_room : p.samples * p.shape.states ≤ length beta
+  -- the walks as their rows lie in memory: T rows of S
+  abbrev pub rows_of : Walks
+  rows_of =
+      record {
+        count = T lent_of;
+        alpha = λ (t i : ℕ). at p.alpha.now (t * S lent_of + i);
+        beta = λ (r i : ℕ). at p.beta.now (r * S lent_of + i);
+        probx = p.probx;
+      }
 
--- the samples are those of the pass, and each is a symbol
-pub record Known (p : Pass) (samples : List ℕ) : Type 0 where
-  pub few : p.shape.symbols ≤ 256
-  pub samples_length : length samples ≡ p.samples
-  pub known : (t : ℕ) → t < p.samples → sample_at samples t < p.shape.symbols
+  -- both walks have a row for each sample, of which there is one at least
+  pub record Standing : Type 0 where
+    pub few : S lent_of ≤ 64
+    pub some : 0 < T lent_of
+    pub alpha_room : T lent_of * S lent_of ≤ length p.alpha.now
+    pub beta_room : T lent_of * S lent_of ≤ length p.beta.now
 
--- all that the arcs read: both walks, the samples, and tables of the shape's size
-pub record Readable (p : Pass) (transition emission : List Float) (samples : List ℕ) (alpha beta : List Float) : Type 0 where
-  pub standing : Standing p alpha beta
-  pub known : Known p samples
-  pub transition_length : length transition ≡ p.shape.states * p.shape.states
-  pub emission_length : length emission ≡ p.shape.states * p.shape.symbols
+  -- each sample is a symbol
+  pub record Known : Type 0 where
+    pub few : M lent_of ≤ 256
+    pub known : (t : ℕ) → t < T lent_of → sample_at lent_of.samples t < M lent_of
 
--- the arcs from state i to state j, by time, and their sum
-module _ (p : Pass) (transition emission : List Float) (samples : List ℕ) (alpha beta : List Float) where
+  -- all that the arcs read: both walks, the samples, and tables of the shape's size
+  pub record Readable : Type 0 where
+    pub standing : Standing
+    pub known : Known
+    pub transition_length : length lent_of.tables.transition ≡ S lent_of * S lent_of
+    pub emission_length : length lent_of.tables.emission ≡ S lent_of * M lent_of
+
+  -- the arcs from state i to state j, by time, and their sum
   abbrev pub arcs_of : ℕ → ℕ → ℕ → Float
-  arcs_of = arc (transition_of p.shape.states transition) (emission_of p.shape.symbols emission samples) (rows_of p alpha beta)
+  arcs_of =
+      arc (transition_of (S lent_of) lent_of.tables.transition) (emission_of (M lent_of) lent_of.tables.emission lent_of.samples) rows_of
 
   abbrev pub arc_sum_of : ℕ → ℕ → Float
-  arc_sum_of = arc_sum (transition_of p.shape.states transition) (emission_of p.shape.symbols emission samples) (rows_of p alpha beta)
+  arc_sum_of =
+      arc_sum (transition_of (S lent_of) lent_of.tables.transition) (emission_of (M lent_of) lent_of.tables.emission lent_of.samples) rows_of
 
 -- a list whose first n entries are f 0, .., f (n - 1)
 abbrev pub Holds : ℕ → (ℕ → Float) → List Float → Type 0

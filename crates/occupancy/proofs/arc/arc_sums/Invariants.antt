@@ -5,4 +5,4 @@ use Rattle.occupancy.specs.inner.Rows.{arc_sum_of, Holds}
 use Rattle.occupancy.proofs.arc.arc_sums.Given as goal
 
 abbrev pub invariant-loop-j : goal.invariant-loop-j
-invariant-loop-j l = (length l.sums ≡ 64) × Holds l.j (arc_sum_of l.pass l.transition l.emission l.samples l.alpha l.beta l.i) l.sums
+invariant-loop-j l = (length l.sums ≡ 64) × Holds l.j (arc_sum_of l.pass l.i) l.sums
