@@ -1,3 +1,4 @@
+pub mod Wiped
 pub mod Shares
 pub mod ZeroMass
 pub mod Walks

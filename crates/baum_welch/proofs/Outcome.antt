@@ -1,21 +1,21 @@
--- The two ways in which a call ends, refused by a check and past them all, and that each is what it promises.
+-- What a call comes to once the checks are passed: both walks stand, there is room for the new tables, and what is written is promised.
 use Prim.Native.Nat.{ℕ, ◌+◌, ◌*◌, ◌≤◌, ◌<◌}
 use native.Mathlib.Nat.{zero-add, mul-le-mul}
 use native.Mathlib.Omega.{arith}
-use mathlib.Core.Path.{◌≡◌, refl, ap, ap₂, ◌∙◌}
+use mathlib.Core.Path.{◌≡◌, refl, sym, ap, ap₂, ◌∙◌}
 use mathlib.Core.Bool.{Bool, true, false, cond}
 use mathlib.Core.List.{List, [], ◌∷◌}
 use lib.ListN.{length}
 use lib.Ieee.{Float}
 use Rattle.floats.specs.Float.{nought, at, minus_infinity}
-use Rattle.lists.specs.Lists.{tab, table, over}
+use Rattle.lists.specs.Lists.{tab, table, over, after}
 use Rattle.lists.proofs.Over.{length_tab, get_or_tab, tab_same, length_over, over_settled}
 use Rattle.lists.proofs.Rows.{length_flat, table_same, place_back}
 use Rattle.lists.proofs.First.{first_same}
 use Rattle.answer.specs.Answer.{done, is_done, answered}
 use Rattle.answer.specs.Checks.{first_of}
 use Rattle.answer.specs.declared.Answer.{Answer}
-use Rattle.model.specs.Lent.{Lent, S, M, T}
+use Rattle.model.specs.Lent.{Tables, tables_of, Lent, S, M, T}
 use Rattle.model.specs.Model.{Model, model_of}
 use Rattle.checks.specs.Rooms.{room}
 use Rattle.checks.specs.LetThrough.{LetThrough}
@@ -28,7 +28,7 @@ use Rattle.occupancy.specs.inner.Rows.{rows_of, Readable}
 use Rattle.occupancy.proofs.Same as Same
 use Rattle.baum_welch.specs.Pass.{probx, share, at_most_zero, new_transition, new_emission, new_initial, new_end}
 use Rattle.baum_welch.specs.Call.{Outputs, outputs, rooms, mass_tests, mass_check, Estimated, walks_of, checked, Trained}
-use Rattle.baum_welch.specs.inner.Tables.{transitions_of}
+use Rattle.baum_welch.specs.inner.Tables.{transitions_of, Retrained}
 use Rattle.baum_welch.proofs.ZeroMass.{hollow}
 use Rattle.baum_welch.proofs.Walks.{probx_is}
 
@@ -55,16 +55,6 @@ module _ (n s : ℕ) (f : ℕ → ℕ → Float) (was is : List Float) (laid : i
       let shorter : length (table n s f) ≤ length (wiped (n * s)) = rw (long, length_tab (n * s) (λ (k : ℕ). nought)) (omega arith) in
       over_settled _ _ was is end e laid shorter
 
--- ---- refused by a check
-pub refused_trained : (l : Lent) (o : Outputs) → is_done (checked l o) ≡ false → (r : Answer) → r ≡ checked l o → Trained l o r o
-refused_trained l o h r e =
-    record {
-      answer = rw h e;
-      new = rw h (record { transition = refl; emission = refl; initial = refl; end = refl });
-      alpha = rw h;
-      beta = rw h;
-    }
-
 -- ---- past the checks
 abbrev pub pass_of : Lent → Float → Pass
 pass_of l v = record { shape = l.tables.shape; samples = T l; probx = v }
@@ -80,9 +70,6 @@ module _ (l : Lent) (o : Outputs) (ok : is_done (checked l o) ≡ true) where
   passed : LetThrough true (rooms l o) l
   passed = let_through true (rooms l o) l ok
 
-  pub few_places : T l * S l ≤ 4096 * 64
-  few_places = mul-le-mul passed.accepted.samples.few_samples passed.accepted.tables.in_range.few_states
-
   alpha_room_lem : T l * S l ≤ length o.alpha
   alpha_room_lem = passed.roomy.1.1.1.1.0
 
@@ -95,18 +82,20 @@ module _ (l : Lent) (o : Outputs) (ok : is_done (checked l o) ≡ true) where
       is_let_through needs_sample (room (T l * S l) n ∷ []) l
       (record { accepted = passed.accepted; roomy = (h, tt); sampled = λ _. passed.sampled tt })
 
-  pub stood : (r r' : Answer) (al be : List Float) → Likelihood.Forward l o.alpha r al → Likelihood.Backward l o.beta r' be
-      → Stood l o al be r.value
-  stood r r' al be f b =
-      let there = walk_done true (length o.alpha) alpha_room_lem in
-      let back = walk_done false (length o.beta) beta_room_lem in
-      let answer : r ≡ done (forward_value (model_of l) (T l)) = rw there at f.answer in
-      record {
-        ok = ok;
-        alpha_laid = rw there at f.values;
-        beta_laid = rw back at b.values;
-        value = ap (λ (x : Answer). x.value) answer ∙ probx_is (model_of l) (T l) (passed.sampled tt);
-      }
+-- the checks found no fault, and both walks were made
+pub stood : {l : Lent} {r r' r'' : Answer} {b : Bool} {al be : List Float} (o : Outputs) → r ≡ checked l o → b ≡ is_done r → b ≡ true
+    → Likelihood.Forward l o.alpha r' al → Likelihood.Backward l o.beta r'' be → Stood l o al be r'.value
+stood {l} {r} {r'} o c d e f b =
+    let ok = sym (ap is_done c) ∙ sym d ∙ e in
+    let there = walk_done l o ok true (length o.alpha) (alpha_room_lem l o ok) in
+    let back = walk_done l o ok false (length o.beta) (beta_room_lem l o ok) in
+    let answer : r' ≡ done (forward_value (model_of l) (T l)) = rw there at f.answer in
+    record {
+      ok = ok;
+      alpha_laid = rw there at f.values;
+      beta_laid = rw back at b.values;
+      value = ap (λ (x : Answer). x.value) answer ∙ probx_is (model_of l) (T l) ((passed l o ok).sampled tt);
+    }
 
 answered_done : (c : Answer) (v : Float) → is_done (answered c v) ≡ is_done c
 answered_done c v = go (is_done c) refl
@@ -132,6 +121,9 @@ module _ {l : Lent} {o : Outputs} {al be : List Float} {v : Float} (st : Stood l
   some : 0 < T l
   some = through.sampled tt
 
+  pub few_places : T l * S l ≤ 4096 * 64
+  few_places = mul-le-mul through.accepted.samples.few_samples through.accepted.tables.in_range.few_states
+
   pub alpha_kept : T l * S l ≤ length al
   alpha_kept = rows_room (T l) (S l) _ _ _ st.alpha_laid (alpha_room_lem l o st.ok)
 
@@ -149,17 +141,8 @@ module _ {l : Lent} {o : Outputs} {al be : List Float} {v : Float} (st : Stood l
       }
 
   -- the outputs have room for the new tables
-  pub transition_room : S l * S l ≤ length o.transition
-  transition_room = through.roomy.0
-
-  pub emission_room : S l * M l ≤ length o.emission
-  emission_room = through.roomy.1.0
-
-  pub initial_room : S l ≤ length o.initial
-  initial_room = through.roomy.1.1.0
-
-  pub end_room : S l ≤ length o.end
-  end_room = through.roomy.1.1.1.0
+  pub roomy : (S l * S l ≤ length o.transition) × (S l * M l ≤ length o.emission) × (S l ≤ length o.initial) × (S l ≤ length o.end)
+  roomy = let r = through.roomy in (r.0, r.1.0, r.1.1.0, r.1.1.1.0)
 
   agree : Same.Agree (S l) (T l) rows.alpha w.alpha rows.beta w.beta
   agree =
@@ -202,42 +185,33 @@ module _ {l : Lent} {o : Outputs} {al be : List Float} {v : Float} (st : Stood l
     unfolding new_end
     end_same = ap₂ (λ (x g : Float). cond m.ends (share x g) nought) (Same.last_same v agree i s) (Same.gamma_same v agree i s)
 
-  -- laid by the code, where the answer is done
-  pub record Written (e : Outputs) : Type 0 where
-    pub transition : e.transition ≡ over 0 (table (S l) (S l) laid) o.transition
-    pub emission : e.emission ≡ over 0 (table (S l) (M l) (new_emission rows l.samples)) o.emission
-    pub initial : e.initial ≡ over 0 (tab (S l) (new_initial rows)) o.initial
-    pub end : e.end ≡ over 0 (tab (S l) (new_end rows m.ends)) o.end
+  relaid : (b : Bool) (xs : List Float) {p q : List Float} → p ≡ q → after b p xs ≡ after b q xs
+  relaid b xs e = ap (λ (p : List Float). after b p xs) e
 
-  relaid : (xs : List Float) {p q : List Float} → p ≡ q → over 0 p xs ≡ over 0 q xs
-  relaid xs e = ap (λ (p : List Float). over 0 p xs) e
-
-  made : (e : Outputs) → Written e → Estimated m w (M l) l.samples true o e
-  made e h =
-      record {
-        transition = h.transition ∙ relaid o.transition (table_same (S l) (S l) _ _ (λ i j s s'. transition_same i s j s'));
-        emission = h.emission ∙ relaid o.emission (table_same (S l) (M l) _ _ (λ i x s _. emission_same i s x));
-        initial = h.initial ∙ relaid o.initial (tab_same (S l) _ _ initial_same);
-        end = h.end ∙ relaid o.end (tab_same (S l) _ _ end_same);
-      }
+  abbrev made : Answer → Tables → Type 0
+  made r e =
+      Retrained (pass_of l v) l.tables.transition l.tables.emission l.samples al be
+      (tables_of l.tables.shape o.transition o.emission o.initial o.end) e r
 
   -- what the outputs hold after the tables are written or left
-  abbrev pub New : Answer → Outputs → Type 0
-  New r e = Estimated m (walks_of l) (M l) l.samples (is_done r) o e
-
-  pub new_written : (r : Answer) (e : Outputs) → is_done r ≡ true → Written e → New r e
-  new_written r e d h = rw d (rw st.value at (made e h))
-
-  pub new_left : (r : Answer) → is_done r ≡ false → New r o
-  new_left r d = rw d (record { transition = refl; emission = refl; initial = refl; end = refl })
+  estimated : (r : Answer) (e : Tables) → made r e
+      → Estimated m w (M l) l.samples (is_done r) o (outputs e.transition e.emission e.initial e.end al be)
+  estimated r e h =
+      let b = is_done r in
+      record {
+        transition = h.laid_transition ∙ relaid b o.transition (table_same (S l) (S l) _ _ (λ i j s s'. transition_same i s j s'));
+        emission = h.laid_emission ∙ relaid b o.emission (table_same (S l) (M l) _ _ (λ i x s _. emission_same i s x));
+        initial = h.laid_initial ∙ relaid b o.initial (tab_same (S l) _ _ initial_same);
+        end = h.laid_end ∙ relaid b o.end (tab_same (S l) _ _ end_same);
+      }
 
   -- and after both walks are wiped
-  pub is_trained : (r : Answer) (e : Outputs) (al' be' : List Float) → r ≡ answered (first_of (mass_tests (S l) m.ends rows)) v → New r e
-      → al' ≡ over 0 (wiped (T l * S l)) al → be' ≡ over 0 (wiped (T l * S l)) be
+  pub is_trained : (r : Answer) (e : Tables) (al' be' : List Float) → made r e → al' ≡ over 0 (wiped (T l * S l)) al
+      → be' ≡ over 0 (wiped (T l * S l)) be
       → Trained l o r (outputs e.transition e.emission e.initial e.end al' be')
-  is_trained r e al' be' a h wa wb =
-      let answer = answer_same r a in
-      let new = rw (ap is_done answer ∙ answered_done (mass_check m (walks_of l)) (probx m (T l))) at h in
+  is_trained r e al' be' h wa wb =
+      let answer = answer_same r h.answer in
+      let new = rw (ap is_done answer ∙ answered_done (mass_check m (walks_of l)) (probx m (T l))) at (rw st.value at (estimated r e h)) in
       record {
         answer = rw st.ok answer;
         new = rw st.ok (record { transition = new.transition; emission = new.emission; initial = new.initial; end = new.end });

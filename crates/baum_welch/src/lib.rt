@@ -5,15 +5,17 @@
 mod mass;
 mod tables;
 
-ghost use Rattle.std.specs.Prelude.{◌≡◌, true, ℕ, ◌≤◌, length};
+ghost use Rattle.std.specs.Prelude.{◌≡◌, true, ℕ, ◌*◌, ◌≤◌, length};
 ghost use Rattle.floats.specs.Float.{nought};
 ghost use Rattle.lists.specs.Lists.{tab, over};
-ghost use Rattle.model.specs.Lent.{lent};
+ghost use Rattle.model.specs.Lent.{lent, tables_of};
 ghost use Rattle.checks.specs.Rooms.{rooms_of};
 ghost use Rattle.checks.specs.Checks as Checks;
+ghost use Rattle.occupancy.specs.inner.Rows.{Readable};
 ghost use Rattle.baum_welch.specs.Call.{needed, outputs, Trained};
+ghost use Rattle.baum_welch.specs.inner.Tables.{Retrained};
 
-use answer::{Answer, is_done};
+use answer::{Answer, done, is_done};
 use checks::{check_rest, check_sizes};
 use likelihood::{backward, forward};
 use mass::weigh;
@@ -26,21 +28,7 @@ fn wipe(scratch: &mut [f64], n: usize)
     requires { n ≤ length scratch.old }
     ensures { scratch.new ≡ over 0 (tab n (λ (k : ℕ). nought)) scratch.old }
 {
-    let mut k = 0;
-    while k < n {
-        scratch[k] = 0.0;
-        k += 1;
-    }
-}
-
-// Makes the first n places of both walks +0.0 again.
-fn wipe_both(alpha: &mut [f64], beta: &mut [f64], n: usize)
-    requires { (n ≤ length alpha.old) × (n ≤ length beta.old) }
-    ensures { (alpha.new ≡ over 0 (tab n (λ (k : ℕ). nought)) alpha.old)
-        × (beta.new ≡ over 0 (tab n (λ (k : ℕ). nought)) beta.old) }
-{
-    wipe(alpha, n);
-    wipe(beta, n);
+    scratch[..n].fill(0.0);
 }
 
 // The checks 1 to 8, in their order; of the six outputs only the lengths are needed, in the outputs' order.
@@ -83,6 +71,49 @@ fn check(
     check_rest(
         shape, transition, emission, initial, end, samples, &needed, lengths,
     )
+}
+
+// The new model where every state has mass: alpha and beta hold both walks, and the outputs have room.
+fn estimate(
+    pass: Pass,
+    transition: &[f64],
+    emission: &[f64],
+    samples: &[u16],
+    alpha: &[f64],
+    beta: &[f64],
+    new_transition: &mut [f64],
+    new_emission: &mut [f64],
+    new_initial: &mut [f64],
+    new_end: &mut [f64],
+) -> Answer
+    requires readable { Readable pass transition.now emission.now samples.now alpha.now beta.now }
+    requires roomy { (pass.shape.states * pass.shape.states ≤ length new_transition.old)
+        × (pass.shape.states * pass.shape.symbols ≤ length new_emission.old)
+        × (pass.shape.states ≤ length new_initial.old)
+        × (pass.shape.states ≤ length new_end.old) }
+    ensures { Retrained pass transition.now emission.now samples.now alpha.now beta.now
+        (tables_of pass.shape new_transition.old new_emission.old new_initial.old new_end.old)
+        (tables_of pass.shape new_transition.new new_emission.new new_initial.new new_end.new)
+        result }
+{
+    let masses = match weigh(pass, alpha, beta) {
+        Ok(masses) => masses,
+        Err(refusal) => return refusal,
+    };
+    transitions(
+        pass,
+        transition,
+        emission,
+        samples,
+        alpha,
+        beta,
+        &masses,
+        new_transition,
+    );
+    emissions(pass, samples, alpha, beta, &masses, new_emission);
+    initials(pass, alpha, beta, new_initial);
+    ends(pass, alpha, beta, &masses, new_end);
+    done(pass.probx)
 }
 
 // One training pass: the model that fits the samples better than the lent one, in the four outputs, and the likelihood of the samples
@@ -130,27 +161,19 @@ pub fn baum_welch(
         samples: samples.len(),
         probx: likelihood.value,
     };
-    let mass = weigh(pass, &alpha[..], &beta[..]);
-    let answer = mass.answer;
-    if !is_done(answer) {
-        wipe_both(alpha, beta, places);
-        return answer;
-    }
-    let gammas = mass.gammas;
-    let denominators = mass.denominators;
-    transitions(
+    let answer = estimate(
         pass,
         transition,
         emission,
         samples,
         &alpha[..],
         &beta[..],
-        &denominators,
         new_transition,
+        new_emission,
+        new_initial,
+        new_end,
     );
-    emissions(pass, samples, &alpha[..], &beta[..], &gammas, new_emission);
-    initials(pass, &alpha[..], &beta[..], new_initial);
-    ends(pass, &alpha[..], &beta[..], &gammas, new_end);
-    wipe_both(alpha, beta, places);
+    wipe(alpha, places);
+    wipe(beta, places);
     answer
 }

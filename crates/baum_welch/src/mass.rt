@@ -2,55 +2,39 @@
 ghost use Rattle.occupancy.specs.inner.Rows.{Standing};
 ghost use Rattle.baum_welch.specs.inner.Tables.{Weighed};
 
-use answer::{Answer, Refusal, done, refused};
+use answer::{Answer, Refusal, refused};
 use floats::is_minus_infinity;
 use occupancy::Pass;
 use occupancy::state::{denominator, gamma, is_massless};
 
-// Whether there is mass, as an answer, and what the states are measured by.
+// What a state is measured by: the sum of its occupancies, and what the arcs out of it are divided by.
 #[derive(Clone, Copy)]
 pub struct Mass {
-    pub answer: Answer,
-    pub gammas: [f64; 64],
-    pub denominators: [f64; 64],
+    pub gamma: f64,
+    pub denominator: f64,
 }
 
-// Refusal 9, at the first state that has no mass, or done with the likelihood.
-pub(crate) fn weigh(pass: Pass, alpha: &[f64], beta: &[f64]) -> Mass
+// The mass of each state, or refusal 9 where the samples cannot be at all, else at the first state that has no mass.
+pub(crate) fn weigh(pass: Pass, alpha: &[f64], beta: &[f64]) -> Result<[Mass; 64], Answer>
     requires { Standing pass alpha.now beta.now }
     ensures { Weighed pass alpha.now beta.now result }
 {
     let states = pass.shape.states;
-    let mut gammas = [0.0; 64];
-    let mut denominators = [0.0; 64];
     if is_minus_infinity(pass.probx) {
-        let answer = refused(Refusal::ZeroMass, 0, states);
-        return Mass {
-            answer,
-            gammas,
-            denominators,
-        };
+        return Err(refused(Refusal::ZeroMass, 0, states));
     }
-    let mut i = 0;
-    while i < states {
-        let own = gamma(pass, alpha, beta, i);
-        let left = denominator(pass, alpha, beta, i, own);
-        if is_massless(own, left) {
-            let answer = refused(Refusal::ZeroMass, 0, i);
-            return Mass {
-                answer,
-                gammas,
-                denominators,
-            };
+    let none = Mass {
+        gamma: 0.0,
+        denominator: 0.0,
+    };
+    let mut masses = [none; 64];
+    for i in 0..states {
+        let gamma = gamma(pass, alpha, beta, i);
+        let denominator = denominator(pass, alpha, beta, i, gamma);
+        if is_massless(gamma, denominator) {
+            return Err(refused(Refusal::ZeroMass, 0, i));
         }
-        gammas[i] = own;
-        denominators[i] = left;
-        i += 1;
+        masses[i] = Mass { gamma, denominator };
     }
-    let answer = done(pass.probx);
-    Mass {
-        answer,
-        gammas,
-        denominators,
-    }
+    Ok(masses)
 }
