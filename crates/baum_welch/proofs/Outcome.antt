@@ -7,6 +7,7 @@ use mathlib.Core.Bool.{Bool, true, false, cond}
 use mathlib.Core.List.{List, [], ◌∷◌}
 use lib.ListN.{length}
 use lib.Ieee.{Float}
+use Rattle.std.specs.Prelude.{Ok, Err}
 use Rattle.floats.specs.Float.{nought, at, minus_infinity}
 use Rattle.lists.specs.Lists.{tab, table, over, after}
 use Rattle.lists.proofs.Over.{length_tab, get_or_tab, tab_same, length_over, over_settled}
@@ -20,15 +21,16 @@ use Rattle.model.specs.Model.{Model, model_of}
 use Rattle.checks.specs.Rooms.{room}
 use Rattle.checks.specs.LetThrough.{LetThrough}
 use Rattle.checks.proofs.Done.{let_through, is_let_through}
+use Rattle.checks.proofs.Parts.{refusal_is, is_refused, is_passed}
 use Rattle.likelihood.specs.Walk.{alpha, beta, forward_value}
 use Rattle.likelihood.specs.Call as Likelihood
 use Rattle.occupancy.specs.declared.Pass.{Pass}
 use Rattle.occupancy.specs.Occupancy.{Walks}
-use Rattle.occupancy.specs.inner.Rows.{rows_of, Readable}
+use Rattle.occupancy.specs.inner.Rows.{lent_of, rows_of, Readable}
 use Rattle.occupancy.proofs.Same as Same
 use Rattle.baum_welch.specs.Pass.{probx, share, at_most_zero, new_transition, new_emission, new_initial, new_end}
-use Rattle.baum_welch.specs.Call.{Outputs, outputs, rooms, mass_tests, mass_check, Estimated, walks_of, checked, Trained}
-use Rattle.baum_welch.specs.inner.Tables.{transitions_of, Retrained}
+use Rattle.baum_welch.specs.Call.{Outputs, outputs, rooms, lengths, mass_tests, mass_check, Estimated, walks_of, checked, Trained}
+use Rattle.baum_welch.specs.inner.Tables.{fault_for, transitions_of, Roomy, Retrained}
 use Rattle.baum_welch.proofs.ZeroMass.{hollow}
 use Rattle.baum_welch.proofs.Walks.{probx_is}
 
@@ -56,9 +58,6 @@ module _ (n s : ℕ) (f : ℕ → ℕ → Float) (was is : List Float) (laid : i
       over_settled _ _ was is end e laid shorter
 
 -- ---- past the checks
-abbrev pub pass_of : Lent → Float → Pass
-pass_of l v = record { shape = l.tables.shape; samples = T l; probx = v }
-
 -- both walks stand: al and be hold them, and v is the likelihood
 pub record Stood (l : Lent) (o : Outputs) (al be : List Float) (v : Float) : Type 0 where
   pub ok : is_done (checked l o) ≡ true
@@ -83,10 +82,10 @@ module _ (l : Lent) (o : Outputs) (ok : is_done (checked l o) ≡ true) where
       (record { accepted = passed.accepted; roomy = (h, tt); sampled = λ _. passed.sampled tt })
 
 -- the checks found no fault, and both walks were made
-pub stood : {l : Lent} {r r' r'' : Answer} {b : Bool} {al be : List Float} (o : Outputs) → r ≡ checked l o → b ≡ is_done r → b ≡ true
+pub stood : {l : Lent} {u : Unit} {r' r'' : Answer} {al be : List Float} (o : Outputs) → Ok u ≡ fault_for l (lengths o)
     → Likelihood.Forward l o.alpha r' al → Likelihood.Backward l o.beta r'' be → Stood l o al be r'.value
-stood {l} {r} {r'} o c d e f b =
-    let ok = sym (ap is_done c) ∙ sym d ∙ e in
+stood {l} {u} {r'} o c f b =
+    let ok = is_passed true l (rooms l o) c in
     let there = walk_done l o ok true (length o.alpha) (alpha_room_lem l o ok) in
     let back = walk_done l o ok false (length o.beta) (beta_room_lem l o ok) in
     let answer : r' ≡ done (forward_value (model_of l) (T l)) = rw there at f.answer in
@@ -97,6 +96,29 @@ stood {l} {r} {r'} o c d e f b =
       value = ap (λ (x : Answer). x.value) answer ∙ probx_is (model_of l) (T l) ((passed l o ok).sampled tt);
     }
 
+module _ {l : Lent} {o : Outputs} {al be : List Float} {v : Float} (st : Stood l o al be v) where
+  pub few_places : T l * S l ≤ 4096 * 64
+  few_places =
+      let a = (passed l o st.ok).accepted in
+      mul-le-mul a.samples.few_samples a.tables.in_range.few_states
+
+  pub alpha_kept : T l * S l ≤ length al
+  alpha_kept = rows_room (T l) (S l) _ _ _ st.alpha_laid (alpha_room_lem l o st.ok)
+
+  pub beta_kept : T l * S l ≤ length be
+  beta_kept = rows_room (T l) (S l) _ _ _ st.beta_laid (beta_room_lem l o st.ok)
+
+-- the checks found fault
+pub is_stopped : {l : Lent} {x : Answer} (o : Outputs) → Err x ≡ fault_for l (lengths o) → Trained l o x o
+is_stopped {l} o e =
+    let stopped = is_refused true l (rooms l o) e in
+    record {
+      answer = rw stopped (refusal_is true l (rooms l o) e);
+      new = rw stopped (record { transition = refl; emission = refl; initial = refl; end = refl });
+      alpha = rw stopped refl;
+      beta = rw stopped refl;
+    }
+
 answered_done : (c : Answer) (v : Float) → is_done (answered c v) ≡ is_done c
 answered_done c v = go (is_done c) refl
   where
@@ -104,13 +126,25 @@ answered_done c v = go (is_done c) refl
     go true e = refl
     go false e = e
 
-module _ {l : Lent} {o : Outputs} {al be : List Float} {v : Float} (st : Stood l o al be v) where
+module _ (p : Pass) {o : Outputs} (st : Stood (lent_of p) o p.alpha.now p.beta.now p.probx) where
+  abbrev l : Lent
+  l = lent_of p
+
+  abbrev al : List Float
+  al = p.alpha.now
+
+  abbrev be : List Float
+  be = p.beta.now
+
+  abbrev v : Float
+  v = p.probx
+
   abbrev m : Model
   m = model_of l
 
   -- the rows in memory, and those of the walks
   abbrev rows : Walks
-  rows = rows_of (pass_of l v) al be
+  rows = rows_of p
 
   abbrev w : Walks
   w = Same.of_rows (T l) (alpha m) (beta m (T l)) v
@@ -121,28 +155,21 @@ module _ {l : Lent} {o : Outputs} {al be : List Float} {v : Float} (st : Stood l
   some : 0 < T l
   some = through.sampled tt
 
-  pub few_places : T l * S l ≤ 4096 * 64
-  few_places = mul-le-mul through.accepted.samples.few_samples through.accepted.tables.in_range.few_states
-
-  pub alpha_kept : T l * S l ≤ length al
-  alpha_kept = rows_room (T l) (S l) _ _ _ st.alpha_laid (alpha_room_lem l o st.ok)
-
-  pub beta_kept : T l * S l ≤ length be
-  beta_kept = rows_room (T l) (S l) _ _ _ st.beta_laid (beta_room_lem l o st.ok)
-
-  pub readable : Readable (pass_of l v) l.tables.transition l.tables.emission l.samples al be
+  pub readable : Readable p
   readable =
       let a = through.accepted in
       record {
-        standing = record { few = a.tables.in_range.few_states; some = some; alpha_room = alpha_kept; beta_room = beta_kept };
-        known = record { few = a.tables.in_range.few_symbols; samples_length = refl; known = a.samples.known };
+        standing = record { few = a.tables.in_range.few_states; some = some; alpha_room = alpha_kept st; beta_room = beta_kept st };
+        known = record { few = a.tables.in_range.few_symbols; known = a.samples.known };
         transition_length = a.tables.transition_length;
         emission_length = a.tables.emission_length;
       }
 
   -- the outputs have room for the new tables
-  pub roomy : (S l * S l ≤ length o.transition) × (S l * M l ≤ length o.emission) × (S l ≤ length o.initial) × (S l ≤ length o.end)
-  roomy = let r = through.roomy in (r.0, r.1.0, r.1.1.0, r.1.1.1.0)
+  pub roomy : Roomy p o.transition o.emission o.initial o.end
+  roomy =
+      let r = through.roomy in
+      record { transition_room = r.0; emission_room = r.1.0; initial_room = r.1.1.0; end_room = r.1.1.1.0 }
 
   agree : Same.Agree (S l) (T l) rows.alpha w.alpha rows.beta w.beta
   agree =
@@ -165,7 +192,7 @@ module _ {l : Lent} {o : Outputs} {al be : List Float} {v : Float} (st : Stood l
 
   -- ---- the new tables
   abbrev laid : ℕ → ℕ → Float
-  laid = transitions_of (pass_of l v) l.tables.transition l.tables.emission l.samples al be
+  laid = transitions_of p
 
   module _ (i : ℕ) (s : i < S l) where
     transition_same : (j : ℕ) → j < S l → laid i j ≡ new_transition m w i j
@@ -190,8 +217,7 @@ module _ {l : Lent} {o : Outputs} {al be : List Float} {v : Float} (st : Stood l
 
   abbrev made : Answer → Tables → Type 0
   made r e =
-      Retrained (pass_of l v) l.tables.transition l.tables.emission l.samples al be
-      (tables_of l.tables.shape o.transition o.emission o.initial o.end) e r
+      Retrained p (tables_of l.tables.shape o.transition o.emission o.initial o.end) e r
 
   -- what the outputs hold after the tables are written or left
   estimated : (r : Answer) (e : Tables) → made r e

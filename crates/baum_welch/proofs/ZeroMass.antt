@@ -13,11 +13,12 @@ use Rattle.answer.specs.Answer.{is_done, refuse}
 use Rattle.answer.specs.Checks.{first_of}
 use Rattle.answer.specs.declared.Answer.{Answer}
 use Rattle.answer.specs.declared.Refusal.TheVariants.{ZeroMass}
+use Rattle.model.specs.Lent.{S}
 use Rattle.occupancy.specs.declared.Pass.{Pass}
 use Rattle.occupancy.specs.Occupancy.{Walks, gamma, denominator, massless}
-use Rattle.occupancy.specs.inner.Rows.{rows_of}
+use Rattle.occupancy.specs.inner.Rows.{lent_of, rows_of}
 use Rattle.baum_welch.specs.Call.{mass_tests}
-use Rattle.baum_welch.specs.inner.Tables.{mass_refusal}
+use Rattle.baum_welch.specs.inner.Tables.{shape_of, mass_refusal}
 
 module _ (S : ℕ) (ends : Bool) (w : Walks) where
   -- the first state that has no mass
@@ -34,29 +35,29 @@ pub tested : (ends : Bool) (w : Walks) (i : ℕ) (r : Bool) (g d : Float) → r 
 unfolding massless
 tested ends w i r g d e h k = rw (← h, ← k) (sym e)
 
-module _ (p : Pass) (alpha beta : List Float) where
-  abbrev S : ℕ
-  S = p.shape.states
+module _ (p : Pass) where
+  abbrev states : ℕ
+  states = S (lent_of p)
 
   -- below the state, none is without mass
   abbrev Below : ℕ → Type 0
-  Below i = hollow i p.shape.ends (rows_of p alpha beta) ≡ i
+  Below i = hollow i (shape_of p).ends (rows_of p) ≡ i
 
   -- refused: the samples cannot be at all, or state i has no mass
   abbrev Refused : Answer → Type 0
-  Refused r = (is_done r ≡ false) × (r ≡ mass_refusal p alpha beta)
+  Refused r = (is_done r ≡ false) × (r ≡ mass_refusal p)
 
-  pub whole_refused : (r : Answer) → r ≡ refuse ZeroMass 0 S → is_minus_infinity p.probx ≡ true → Refused r
+  pub whole_refused : (r : Answer) → r ≡ refuse ZeroMass 0 states → is_minus_infinity p.probx ≡ true → Refused r
   unfolding first_of
   whole_refused r e h = (ap is_done e, rw h e)
 
-  pub state_refused : (r : Answer) (i : ℕ) → r ≡ refuse ZeroMass 0 i → is_minus_infinity p.probx ≡ false → Below i → i < S
-      → massless p.shape.ends (rows_of p alpha beta) i ≡ true → Refused r
+  pub state_refused : (r : Answer) (i : ℕ) → r ≡ refuse ZeroMass 0 i → is_minus_infinity p.probx ≡ false → Below i → i < states
+      → massless (shape_of p).ends (rows_of p) i ≡ true → Refused r
   state_refused r i e h below l there =
-      let stop = first_stop _ i S below there l in
-      (ap is_done e, e ∙ ap (refuse ZeroMass 0) stop ∙ sym (mass_state S p.shape.ends _ h (rw stop at l)))
+      let stop = first_stop _ i states below there l in
+      (ap is_done e, e ∙ ap (refuse ZeroMass 0) stop ∙ sym (mass_state states (shape_of p).ends _ h (rw stop at l)))
 
   -- every state has mass
-  pub mass_found : is_minus_infinity p.probx ≡ false → Below S → is_done (mass_refusal p alpha beta) ≡ true
+  pub mass_found : is_minus_infinity p.probx ≡ false → Below states → is_done (mass_refusal p) ≡ true
   unfolding first_of
-  mass_found h below = rw (h, below, le-ltb S S (omega arith))
+  mass_found h below = rw (h, below, le-ltb states states (omega arith))

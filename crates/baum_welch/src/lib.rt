@@ -5,21 +5,19 @@
 mod mass;
 mod tables;
 
-ghost use Rattle.std.specs.Prelude.{◌≡◌, true, ℕ, ◌*◌, ◌≤◌, length};
+ghost use Rattle.std.specs.Prelude.{◌≡◌, ℕ, ◌≤◌, [], ◌∷◌, length};
 ghost use Rattle.floats.specs.Float.{nought};
 ghost use Rattle.lists.specs.Lists.{tab, over};
-ghost use Rattle.model.specs.Lent.{lent, tables_of};
-ghost use Rattle.checks.specs.Rooms.{rooms_of};
-ghost use Rattle.checks.specs.Checks as Checks;
+ghost use Rattle.model.specs.Lent.{behind, tables_of};
 ghost use Rattle.occupancy.specs.inner.Rows.{Readable};
-ghost use Rattle.baum_welch.specs.Call.{needed, outputs, Trained};
-ghost use Rattle.baum_welch.specs.inner.Tables.{Retrained};
+ghost use Rattle.baum_welch.specs.Call.{outputs, Trained};
+ghost use Rattle.baum_welch.specs.inner.Tables.{fault_for, shape_of, Roomy, Retrained};
 
-use answer::{Answer, done, is_done};
-use checks::{check_rest, check_sizes};
+use answer::{Answer, Checked, done};
+use checks::{Room, check_lengths, check_rest};
 use likelihood::{backward, forward};
 use mass::weigh;
-use model::Shape;
+use model::Lent;
 use occupancy::Pass;
 use tables::{emissions, ends, initials, transitions};
 
@@ -31,88 +29,57 @@ fn wipe(scratch: &mut [f64], n: usize)
     scratch[..n].fill(0.0);
 }
 
-// The checks 1 to 8, in their order; of the six outputs only the lengths are needed, in the outputs' order.
+// The checks 1 to 8, in their order; of the six outputs only the lengths are needed.
 fn check(
-    shape: Shape,
-    transition: &[f64],
-    emission: &[f64],
-    initial: &[f64],
-    end: &[f64],
-    samples: &[u16],
-    lengths: &[usize],
-) -> Answer
-    requires { length lengths.now ≡ 6 }
-    ensures { result ≡ Checks.check true (rooms_of (needed shape (length samples.now)) lengths.now)
-        (lent shape transition.now emission.now initial.now end.now samples.now) }
+    lent: &Lent,
+    transition: usize,
+    emission: usize,
+    initial: usize,
+    end: usize,
+    alpha: usize,
+    beta: usize,
+) -> Checked
+    ensures { result ≡ fault_for (behind lent.now)
+        (transition ∷ emission ∷ initial ∷ end ∷ alpha ∷ beta ∷ []) }
 {
-    let n = samples.len();
-    let sizes = check_sizes(
-        true,
-        shape,
-        transition.len(),
-        emission.len(),
-        initial.len(),
-        end.len(),
-        n,
-    );
-    if !is_done(sizes) {
-        return sizes;
-    }
+    check_lengths(true, lent)?;
+    let shape = lent.tables.shape;
     let states = shape.states;
-    let places = n * states;
-    let needed = [
-        states * states,
-        states * shape.symbols,
-        states,
-        states,
-        places,
-        places,
+    let places = lent.samples.len() * states;
+    let outputs = [
+        Room::of(states * states, transition),
+        Room::of(states * shape.symbols, emission),
+        Room::of(states, initial),
+        Room::of(states, end),
+        Room::of(places, alpha),
+        Room::of(places, beta),
     ];
-    check_rest(
-        shape, transition, emission, initial, end, samples, &needed, lengths,
-    )
+    check_rest(lent, &outputs)
 }
 
 // The new model where every state has mass: alpha and beta hold both walks, and the outputs have room.
 fn estimate(
-    pass: Pass,
-    transition: &[f64],
-    emission: &[f64],
-    samples: &[u16],
-    alpha: &[f64],
-    beta: &[f64],
+    pass: &Pass,
     new_transition: &mut [f64],
     new_emission: &mut [f64],
     new_initial: &mut [f64],
     new_end: &mut [f64],
 ) -> Answer
-    requires readable { Readable pass transition.now emission.now samples.now alpha.now beta.now }
-    requires roomy { (pass.shape.states * pass.shape.states ≤ length new_transition.old)
-        × (pass.shape.states * pass.shape.symbols ≤ length new_emission.old)
-        × (pass.shape.states ≤ length new_initial.old)
-        × (pass.shape.states ≤ length new_end.old) }
-    ensures { Retrained pass transition.now emission.now samples.now alpha.now beta.now
-        (tables_of pass.shape new_transition.old new_emission.old new_initial.old new_end.old)
-        (tables_of pass.shape new_transition.new new_emission.new new_initial.new new_end.new)
+    requires readable { Readable pass.now }
+    requires roomy { Roomy pass.now new_transition.old new_emission.old new_initial.old new_end.old }
+    ensures { Retrained pass.now
+        (tables_of (shape_of pass.now) new_transition.old new_emission.old new_initial.old new_end.old)
+        (tables_of (shape_of pass.now) new_transition.new new_emission.new new_initial.new new_end.new)
         result }
 {
-    let masses = match weigh(pass, alpha, beta) {
+    let masses = match weigh(pass) {
         Ok(masses) => masses,
         Err(refusal) => return refusal,
     };
-    transitions(
-        pass,
-        transition,
-        emission,
-        samples,
-        alpha,
-        beta,
-        &masses,
-        new_transition,
-    );
-    emissions(pass, samples, alpha, beta, &masses, new_emission);
-    initials(pass, alpha, beta, new_initial);
-    ends(pass, alpha, beta, &masses, new_end);
+    transitions(pass, &masses, new_transition);
+    emissions(pass, &masses, new_emission);
+    initials(pass, new_initial);
+    ends(pass, &masses, new_end);
     done(pass.probx)
 }
 
@@ -120,12 +87,7 @@ fn estimate(
 // under the lent one as the value. The two scratch tables hold both walks meanwhile and are +0.0 after. Where the samples cannot be, or
 // a state is never met or never left, the pass is refused with 9 and the outputs stay as they are.
 pub fn baum_welch(
-    shape: Shape,
-    transition: &[f64],
-    emission: &[f64],
-    initial: &[f64],
-    end: &[f64],
-    samples: &[u16],
+    lent: &Lent,
     new_transition: &mut [f64],
     new_emission: &mut [f64],
     new_initial: &mut [f64],
@@ -134,45 +96,34 @@ pub fn baum_welch(
     beta: &mut [f64],
 ) -> Answer
     ensures { Trained
-        (lent shape transition.now emission.now initial.now end.now samples.now)
+        (behind lent.now)
         (outputs new_transition.old new_emission.old new_initial.old new_end.old
         alpha.old beta.old)
         result
         (outputs new_transition.new new_emission.new new_initial.new new_end.new
         alpha.new beta.new) }
 {
-    let lengths = [
+    if let Err(refusal) = check(
+        lent,
         new_transition.len(),
         new_emission.len(),
         new_initial.len(),
         new_end.len(),
         alpha.len(),
         beta.len(),
-    ];
-    let checked = check(shape, transition, emission, initial, end, samples, &lengths);
-    if !is_done(checked) {
-        return checked;
+    ) {
+        return refusal;
     }
-    let likelihood = forward(shape, transition, emission, initial, end, samples, alpha);
-    backward(shape, transition, emission, initial, end, samples, beta);
-    let places = samples.len() * shape.states;
+    let likelihood = forward(lent, alpha);
+    backward(lent, beta);
     let pass = Pass {
-        shape,
-        samples: samples.len(),
+        lent: *lent,
+        alpha: &alpha[..],
+        beta: &beta[..],
         probx: likelihood.value,
     };
-    let answer = estimate(
-        pass,
-        transition,
-        emission,
-        samples,
-        &alpha[..],
-        &beta[..],
-        new_transition,
-        new_emission,
-        new_initial,
-        new_end,
-    );
+    let answer = estimate(&pass, new_transition, new_emission, new_initial, new_end);
+    let places = lent.samples.len() * lent.tables.shape.states;
     wipe(alpha, places);
     wipe(beta, places);
     answer

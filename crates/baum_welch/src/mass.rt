@@ -15,11 +15,11 @@ pub struct Mass {
 }
 
 // The mass of each state, or refusal 9 where the samples cannot be at all, else at the first state that has no mass.
-pub(crate) fn weigh(pass: Pass, alpha: &[f64], beta: &[f64]) -> Result<[Mass; 64], Answer>
-    requires { Standing pass alpha.now beta.now }
-    ensures { Weighed pass alpha.now beta.now result }
+pub(crate) fn weigh(pass: &Pass) -> Result<[Mass; 64], Answer>
+    requires { Standing pass.now }
+    ensures { Weighed pass.now result }
 {
-    let states = pass.shape.states;
+    let states = pass.lent.tables.shape.states;
     if is_minus_infinity(pass.probx) {
         return Err(refused(Refusal::ZeroMass, 0, states));
     }
@@ -29,8 +29,8 @@ pub(crate) fn weigh(pass: Pass, alpha: &[f64], beta: &[f64]) -> Result<[Mass; 64
     };
     let mut masses = [none; 64];
     for i in 0..states {
-        let gamma = gamma(pass, alpha, beta, i);
-        let denominator = denominator(pass, alpha, beta, i, gamma);
+        let gamma = gamma(pass, i);
+        let denominator = denominator(pass, i, gamma);
         if is_massless(gamma, denominator) {
             return Err(refused(Refusal::ZeroMass, 0, i));
         }

@@ -4,11 +4,11 @@ use lib.ListN.{length}
 use Rattle.lists.specs.First.{first}
 use Rattle.occupancy.specs.Occupancy.{massless}
 use Rattle.occupancy.specs.inner.Rows.{rows_of}
-use Rattle.baum_welch.specs.inner.Tables.{Masses}
+use Rattle.baum_welch.specs.inner.Tables.{shape_of, Masses}
 use Rattle.baum_welch.proofs.mass.weigh.Given as goal
 
 abbrev pub invariant-loop-i : goal.invariant-loop-i
 invariant-loop-i l =
     (length l.masses ≡ 64)
-    × Masses l.i l.pass l.alpha l.beta l.masses
-    × (first (massless l.pass.shape.ends (rows_of l.pass l.alpha l.beta)) l.i ≡ l.i)
+    × Masses l.i l.pass l.masses
+    × (first (massless (shape_of l.pass).ends (rows_of l.pass)) l.i ≡ l.i)

@@ -1,9 +1,9 @@
 -- `baum_welch::tables::ends` meets its contract. The loop's invariant: those of the states below i stand.
 use mathlib.Core.Path.{◌≡◌}
 use Rattle.lists.specs.Lists.{tab, over}
-use Rattle.occupancy.specs.inner.Rows.{rows_of}
+use Rattle.occupancy.specs.inner.Rows.{lent_of, rows_of}
 use Rattle.baum_welch.specs.Pass as Spec
 use Rattle.baum_welch.proofs.tables.ends.Given as goal
 
 abbrev pub invariant-loop-i : goal.invariant-loop-i
-invariant-loop-i l = l.out ≡ over 0 (tab l.i (Spec.new_end (rows_of l.pass l.alpha l.beta) l.pass.shape.ends)) l.initial.out
+invariant-loop-i l = l.out ≡ over 0 (tab l.i (Spec.new_end (rows_of l.pass) (lent_of l.pass).tables.shape.ends)) l.initial.out

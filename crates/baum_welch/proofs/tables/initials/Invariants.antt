@@ -6,4 +6,4 @@ use Rattle.baum_welch.specs.Pass as Spec
 use Rattle.baum_welch.proofs.tables.initials.Given as goal
 
 abbrev pub invariant-loop-i : goal.invariant-loop-i
-invariant-loop-i l = l.out ≡ over 0 (tab l.i (Spec.new_initial (rows_of l.pass l.alpha l.beta))) l.initial.out
+invariant-loop-i l = l.out ≡ over 0 (tab l.i (Spec.new_initial (rows_of l.pass))) l.initial.out

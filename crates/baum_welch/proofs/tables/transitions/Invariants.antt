@@ -6,4 +6,4 @@ use Rattle.baum_welch.proofs.tables.transitions.Given as goal
 
 abbrev pub invariant-loop-i : goal.invariant-loop-i
 invariant-loop-i l =
-    l.out ≡ over 0 (table l.i l.states (transitions_of l.pass l.transition l.emission l.samples l.alpha l.beta)) l.initial.out
+    l.out ≡ over 0 (table l.i l.states (transitions_of l.pass)) l.initial.out
