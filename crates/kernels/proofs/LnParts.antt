@@ -9,7 +9,7 @@ use borrow.Author.Tests.{eqb-true, ltb-true, ltb-false}
 use lib.IntN.{ℤ, pos, negsuc, ◌-ℤ◌}
 use lib.Dec.{T, eqb, leb→le, ltb→lt}
 use lib.Pow.{pow_pos}
-use lib.Ieee.{Float, nan, inf, fin, binary64, up, down, size, of_bits, to_bits, fits, is_nan, lt, mul, of_int, in_float, round}
+use lib.Ieee.{Float, nan, inf, fin, binary64, up, down, size, of_bits, to_bits, fits, is_nan, lt, eq, mul, of_int, in_float, round}
 use lib.Ieee.Fits.{down_pos, up_pos, kept-lt}
 use lib.Ieee.Digits.{size-le}
 use lib.Ieee.Bits.{of_bits-to_bits}
@@ -97,15 +97,17 @@ other_ln (fin true m e) h = refl
 other_ln (fin false zero e) h = refl
 other_ln (fin false (suc m) e) h = absurd (above m (up e) (down e) (up_pos e) (ltb-false (0 * down e) (suc m * up e * 1) h))
 
-pub infinite_ln : (x : Float) → T (fits binary64 x) → to_bits binary64 x ≡ 0x7ff0_0000_0000_0000 → x ≡ ln_of x
-unfolding ln_of of_bits
-infinite_ln x f h =
-    let e : x ≡ inf false = sym (of_bits-to_bits binary64 x f) ∙ ap (of_bits binary64) h in
-    e ∙ ap ln_of (sym e)
+-- x is plus infinity, by the code's test
+pub infinite_ln : (x : Float) → eq x (inf false) ≡ true → x ≡ ln_of x
+unfolding eq ln_of
+infinite_ln nan h = absurd (false≢true h)
+infinite_ln (inf true) h = absurd (false≢true h)
+infinite_ln (inf false) h = refl
+infinite_ln (fin s m e) h = absurd (false≢true h)
 
-pub not_infinite : (x : Float) → (to_bits binary64 x ≡ 0x7ff0_0000_0000_0000 → ⊥) → x ≡ inf false → ⊥
-unfolding to_bits
-not_infinite x h e = h (ap (to_bits binary64) e)
+pub not_infinite : (x : Float) → eq x (inf false) ≡ false → x ≡ inf false → ⊥
+unfolding eq
+not_infinite x h e = true≢false (ap (λ (y : Float). eq y (inf false)) (sym e) ∙ h)
 
 -- ---- x's bits
 pattern_under : (n : ℕ) → n < 2 ^ 2098 → (0 + (size n - 53) * 2 ^ 52 + n / 2 ^ (size n - 53)) / 2 ^ 52 < 2047

@@ -2,10 +2,9 @@
 use mathlib.Core.Path.{◌≡◌, refl, sym, ap, ◌∙◌}
 use mathlib.Core.Bool.{Bool, cond}
 use Prim.Native.Nat.{ℕ, suc, ◌+◌, ◌-◌, ◌*◌, ◌/◌, ◌^◌, ◌≤◌, ◌<◌}
-use native.Mathlib.Nat.{le_of_lt, lt_of_lt_of_le, mul-le-mul_left, pow-suc, add-zero}
+use native.Mathlib.Nat.{le_of_lt, mul-le-mul_left, pow-suc, add-zero}
 use native.Mathlib.Omega.{arith}
 use native.Mathlib.Numerals.{add-one}
-use lib.Pow.{pow_mono}
 use borrow.Author.Tests.{le-leb, lt-leb}
 use Rattle.kernels.specs.Ln.{squared, bit_of, halved, log_bits}
 
@@ -13,9 +12,6 @@ pub square_lt : (a : ℕ) → a < 2 ^ 32 → a * a < 2 ^ 64
 square_lt a h =
     let p : a * a ≤ a * 4294967296 = mul-le-mul_left a (le_of_lt h) in
     omega arith
-
-pub room : (i f : ℕ) → i < 30 → f < 2 ^ i → f < 2 ^ 30
-room i f h k = lt_of_lt_of_le k (pow_mono (le_of_lt h))
 
 pub more : (i f d : ℕ) → f < 2 ^ i → d < 2 → f * 2 + d < 2 ^ (i + 1)
 more i f d h k =

@@ -3,47 +3,23 @@ use mathlib.Core.Path.{◌≡◌, refl, sym, ap, ◌∙◌}
 use mathlib.Core.Bool.{Bool, true, false, cond, ◌&&◌}
 use mathlib.Core.List.{List, [], ◌∷◌, ◌++◌}
 use Prim.Native.Nat.{ℕ, zero, suc, ◌+◌, ◌-◌, ◌*◌, ◌/◌, ◌%◌, ◌^◌, ◌≤◌, ◌<◌}
-use native.Mathlib.Nat.{le_refl, sub_self, le_of_lt, lt_of_le_of_lt, mul-le-mul, mul-one, mul-zero, mul-div_cancel, div-le_of_le-mul}
-use native.Mathlib.Nat.{add_comm, add-zero, not-suc-le-zero, le_of_suc-le-suc}
+use native.Mathlib.Nat.{le_refl, sub_self, le_of_lt, mul-le-mul, div-le_of_le-mul}
+use native.Mathlib.Nat.{add_comm, not-suc-le-zero, le_of_suc-le-suc}
 use native.Mathlib.Omega.{arith}
 use lib.Dec.{T, eqb, ltb, ltb→lt}
 use lib.Ieee.Fits.{and_l, and_r}
 use lib.ListN.{length, get_or, take, drop, length-append}
-use lib.Pow.{pow_pos, shr-shr}
+use lib.Pow.{shr-shr}
 use Rattle.kernels.specs.Roots.{constants}
 use Rattle.kernels.specs.Exp.{step, steps, power}
 
--- the factor of a step, by the bit: c or 2^31
-abbrev factor : ℕ → ℕ → ℕ
-factor c b = c * b + 2147483648 * (1 - b)
-
-module _ (a c : ℕ) where
-  pub step_is : (b : ℕ) → b < 2 → a * factor c b / 2 ^ 31 ≡ step c b a
-  step_is zero h = ap (λ (n : ℕ). a * (n + 2147483648) / 2 ^ 31) (mul-zero c) ∙ mul-div_cancel a (pow_pos 31)
-  step_is (suc zero) h = ap (λ (n : ℕ). a * (n + 0) / 2 ^ 31) (mul-one c) ∙ ap (λ (n : ℕ). a * n / 2 ^ 31) (add-zero c)
-  step_is (suc (suc b)) h = absurd (not-suc-le-zero (le_of_suc-le-suc (le_of_suc-le-suc h)))
-
-  module _ (below : a ≤ 2 ^ 31) (small : c < 2 ^ 31) where
-    pub part_lt : (b : ℕ) → b < 2 → c * b < 2 ^ 31
-    part_lt zero h = omega (arith, mul-zero c)
-    part_lt (suc zero) h = omega (arith, mul-one c)
-    part_lt (suc (suc b)) h = absurd (not-suc-le-zero (le_of_suc-le-suc (le_of_suc-le-suc h)))
-
-    factor_le : (b : ℕ) → b < 2 → factor c b ≤ 2 ^ 31
-    factor_le zero h = omega (arith, mul-zero c)
-    factor_le (suc zero) h = omega (arith, mul-one c)
-    factor_le (suc (suc b)) h = absurd (not-suc-le-zero (le_of_suc-le-suc (le_of_suc-le-suc h)))
-
-    -- the product before the shift
-    pub product_lt : (b : ℕ) → b < 2 → a * factor c b < 2 ^ 64
-    product_lt b h = lt_of_le_of_lt (mul-le-mul below (factor_le b h)) (omega arith)
-
-    pub step_le : (b : ℕ) → step c b a ≤ 2 ^ 31
-    step_le b = go (eqb b 1)
-      where
-        go : (t : Bool) → cond t (a * c / 2 ^ 31) a ≤ 2 ^ 31
-        go true = div-le_of_le-mul (2 ^ 31) (mul-le-mul below (le_of_lt small))
-        go false = below
+module _ (a c : ℕ) (below : a ≤ 2 ^ 31) (small : c < 2 ^ 31) where
+  pub step_le : (b : ℕ) → step c b a ≤ 2 ^ 31
+  step_le b = go (eqb b 1)
+    where
+      go : (t : Bool) → cond t (a * c / 2 ^ 31) a ≤ 2 ^ 31
+      go true = div-le_of_le-mul (2 ^ 31) (mul-le-mul below (le_of_lt small))
+      go false = below
 
 -- ---- no step passes 2^31
 all_below : List ℕ → Bool

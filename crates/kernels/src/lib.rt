@@ -17,7 +17,6 @@ ghost use Rattle.kernels.specs.Exp.{step, steps, exp_of};
 ghost use Rattle.kernels.specs.Ln.{log_bits, joined, ln_fixed, ln_of};
 ghost use Rattle.kernels.specs.Ln1m as Ln1m;
 ghost use Rattle.kernels.specs.Ln1m.{ln1m_of};
-ghost use Rattle.kernels.specs.Calls as Calls;
 ghost use Rattle.kernels.specs.Calls.{exp_answer, ln_answer, ln1m_answer};
 
 use answer::{Answer, Refusal, done, refused};
@@ -25,32 +24,22 @@ use floats::minus_infinity;
 use heads::head;
 
 // The whole square root of 2^61, then each the whole square root of the one before times 2^31.
-const ROOTS: [u64; 30] = [
+static ROOTS: [u64; 30] = [
     1518500249, 1805811300, 1969251187, 2056437386, 2101467501, 2124350982, 2135885998, 2141676972,
     2144578344, 2146030504, 2146756953, 2147120269, 2147301950, 2147392797, 2147438222, 2147460934,
     2147472290, 2147477968, 2147480807, 2147482227, 2147482937, 2147483292, 2147483469, 2147483558,
     2147483602, 2147483624, 2147483635, 2147483641, 2147483644, 2147483645,
 ];
 
-// A kernel's answer: its value, where the argument is inside its domain.
-fn kernel_answer(inside: bool, value: f64) -> Answer
-    ensures { result ≡ Calls.kernel_answer inside value }
-{
-    if inside {
-        done(value)
-    } else {
-        refused(Refusal::NotGood, 0, 0)
-    }
-}
-
 // The digits of an f64's bits, sign clear: the fraction's field with the leading one, which a subnormal lacks.
 fn digits(bits: u64) -> u64
     ensures { result ≡ digits_of bits }
 {
+    let fraction = bits & 0xf_ffff_ffff_ffff;
     if bits >> 52 == 0 {
-        bits & 0xf_ffff_ffff_ffff
+        fraction
     } else {
-        (bits & 0xf_ffff_ffff_ffff) | 0x10_0000_0000_0000
+        fraction | 0x10_0000_0000_0000
     }
 }
 
@@ -58,8 +47,7 @@ fn digits(bits: u64) -> u64
 fn place(bits: u64) -> u64
     ensures { result ≡ place_of bits }
 {
-    let field = bits >> 52;
-    if field == 0 { 0 } else { field - 1 }
+    (bits >> 52).saturating_sub(1)
 }
 
 // One step of exp, for the lowest bit of g: a·c / 2^31 where it is set, else a, with no branch.
@@ -77,12 +65,9 @@ pub(crate) fn steps_over(a: u64, g: u64, from: usize, to: usize) -> u64
     requires { (a ≤ 2 ^ 31) × (from ≤ to) × (to ≤ 30) }
     ensures { (result ≡ steps (take (to - from) (drop from constants)) g a) × (result ≤ 2 ^ 31) }
 {
-    let c = ROOTS;
     let mut r = a;
-    let mut i = from;
-    while i < to {
-        r = stepped(r, c[i], g >> (to - 1 - i));
-        i += 1;
+    for i in from..to {
+        r = stepped(r, ROOTS[i], g >> (to - 1 - i));
     }
     r
 }
@@ -127,7 +112,7 @@ pub fn exp_of(d: f64) -> f64
     if y >= 62.0 {
         return 0.0;
     }
-    let fixed = floor30(f64::to_bits(y));
+    let fixed = floor30(y.to_bits());
     scaled(power(fixed & 0x3fff_ffff), 31 + (fixed >> 30))
 }
 
@@ -135,7 +120,11 @@ pub fn exp_of(d: f64) -> f64
 pub fn exp(d: f64) -> Answer
     ensures { result ≡ exp_answer d }
 {
-    kernel_answer(d <= 0.0, exp_of(d))
+    if d <= 0.0 {
+        done(exp_of(d))
+    } else {
+        refused(Refusal::NotGood, 0, 0)
+    }
 }
 
 // How many binary digits q has.
@@ -143,7 +132,7 @@ fn size_of(q: u64) -> u64
     requires { 0 < q }
     ensures { (result ≡ size q) × (0 < result) }
 {
-    64 - (u64::leading_zeros(q) as u64)
+    64 - u64::from(q.leading_zeros())
 }
 
 // The thirty bits of the logarithm to base 2 of m / 2^31.
@@ -153,17 +142,15 @@ fn log_bits(m: u64) -> u64
 {
     let mut a = m;
     let mut f: u64 = 0;
-    let mut i: usize = 0;
-    while i < 30 {
+    for _ in 0..30u32 {
         let b = (a * a) >> 31;
         if b >= 0x1_0000_0000 {
             a = b >> 1;
             f = f * 2 + 1;
         } else {
             a = b;
-            f = f * 2;
+            f *= 2;
         }
-        i += 1;
     }
     f
 }
@@ -193,11 +180,10 @@ pub fn ln_of(x: f64) -> f64
     ensures { result ≡ ln_of x }
 {
     if 0.0 < x {
-        let bits = f64::to_bits(x);
-        if bits == 0x7ff0_0000_0000_0000 {
+        if x == f64::INFINITY {
             return x;
         }
-        let n = ln_fixed(bits);
+        let n = ln_fixed(x.to_bits());
         (n as f64) * 9.313225746154785e-10 * 0.6931471805599453
     } else {
         minus_infinity()
@@ -208,7 +194,11 @@ pub fn ln_of(x: f64) -> f64
 pub fn ln(x: f64) -> Answer
     ensures { result ≡ ln_answer x }
 {
-    kernel_answer(0.0 <= x, ln_of(x))
+    if 0.0 <= x {
+        done(ln_of(x))
+    } else {
+        refused(Refusal::NotGood, 0, 0)
+    }
 }
 
 // 1 - q/2 + q·q/6 - .., from the inside.
@@ -216,10 +206,8 @@ fn horner(q: f64) -> f64
     ensures { result ≡ Ln1m.horner 12 q one }
 {
     let mut h: f64 = 1.0;
-    let mut k: u32 = 12;
-    while 2 <= k {
-        h = 1.0 - q / (k as f64) * h;
-        k -= 1;
+    for k in (2..=12u32).rev() {
+        h = 1.0 - q / f64::from(k) * h;
     }
     h
 }
@@ -239,5 +227,9 @@ pub fn ln_1m_of(p: f64) -> f64
 pub fn ln_1m_exp(p: f64) -> Answer
     ensures { result ≡ ln1m_answer p }
 {
-    kernel_answer(p <= 0.0, ln_1m_of(p))
+    if p <= 0.0 {
+        done(ln_1m_of(p))
+    } else {
+        refused(Refusal::NotGood, 0, 0)
+    }
 }

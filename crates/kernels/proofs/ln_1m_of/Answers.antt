@@ -2,6 +2,7 @@
 use mathlib.Core.Path.{◌≡◌, refl, sym, ap, ◌∙◌}
 use mathlib.Core.Bool.{Bool, true, false, cond}
 use lib.Ieee.{Float, binary64, of_bits, neg, lt, mul, round, size}
+use Rattle.std.proofs.lemmas.Float.{one_f64_is}
 use Rattle.floats.specs.Float.{one, ◌⊖◌}
 use Rattle.kernels.specs.Exp.{depth, exp_of}
 use Rattle.kernels.specs.Ln.{ln_of}
@@ -12,10 +13,6 @@ border_bits : of_bits binary64 0x3fe6_2d0e_5604_1893 ≡ border
 unfolding of_bits border round size
 border_bits = refl
 
-one_bits : of_bits binary64 0x3ff0_0000_0000_0000 ≡ one
-unfolding of_bits
-one_bits = refl
-
 by_test : (p : Float) (t : Bool) → lt p (neg (of_bits binary64 0x3fe6_2d0e_5604_1893)) ≡ t → ln1m_of p ≡ cond t (ln_of (one ⊖ exp_of p)) (ln_of (series (depth p)))
 unfolding ln1m_of
 by_test p t h = ap (λ (b : Bool). cond b (ln_of (one ⊖ exp_of p)) (ln_of (series (depth p)))) (ap (λ (b : Float). lt p (neg b)) (sym border_bits) ∙ h)
@@ -24,7 +21,7 @@ pub returns-then-p : goal.returns-then-p
 returns-then-p c = let e = c.before in
     let t = e.before in
     c.ln_of.ensures
-    ∙ ap (λ (u : Float). ln_of (u ⊖ e.exp_of.result)) one_bits
+    ∙ ap (λ (u : Float). ln_of (u ⊖ e.exp_of.result)) one_f64_is
     ∙ ap (λ (v : Float). ln_of (one ⊖ v)) e.exp_of.ensures
     ∙ sym (by_test t.args.p true t.if-p.true)
 

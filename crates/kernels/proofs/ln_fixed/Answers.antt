@@ -1,18 +1,15 @@
 -- `kernels::ln_fixed` meets its contract: the digits, their size and place, and the bits of the logarithm make up the definition's number.
 use mathlib.Core.Path.{◌≡◌, sym, ap, ◌∙◌, subst}
 use native.Mathlib.Omega.{arith}
-use Prim.Native.Nat.{ℕ, ◌≤◌, ◌<◌}
+use Prim.Native.Nat.{ℕ, ◌≤◌}
 use lib.Dec.{T}
 use lib.IntN.{ℤ}
 use lib.Ieee.{binary64, in_float, size}
 use mir.Syntax.{w64}
 use mir.ValLaws.{to_z-of_z}
 use Rattle.kernels.specs.inner.Pattern.{digits_of}
-use Rattle.kernels.proofs.LnParts.{digits_pos, digits_size, parts}
+use Rattle.kernels.proofs.LnParts.{digits_size, parts}
 use Rattle.kernels.proofs.ln_fixed.Goals as goal
-
-pub size_of-k-requires : goal.size_of-k-requires
-size_of-k-requires c = subst (λ (q : ℕ). 0 < q) (sym c.digits-q.ensures) (digits_pos c.args.bits c.requires.0)
 
 -- the size is at most 53
 small : (bits q s : ℕ) → q ≡ digits_of bits → s ≡ size q → s ≤ 53

@@ -1,10 +1,6 @@
--- `kernels::log_bits` meets its contract. The invariant: a is below 2^32, f has i bits, and the squarings left to do give the answer.
-use Prim.Native.Nat.{◌-◌}
+-- `kernels::log_bits` meets its contract. The invariant: a is below 2^32, f has as many bits as turns were taken, and the squarings left to do give the answer.
 use Rattle.kernels.proofs.Squares.{Squared}
 use Rattle.kernels.proofs.log_bits.Given as goal
 
-abbrev pub invariant-loop-i : goal.invariant-loop-i
-invariant-loop-i l = Squared l.m l.i l.a l.f
-
-abbrev pub decreases-loop-i : goal.decreases-loop-i
-decreases-loop-i l = 30 - l.i
+abbrev pub invariant-loop : goal.invariant-loop
+invariant-loop l = Squared l.m l.counter l.a l.f

@@ -1,13 +1,6 @@
 -- `kernels::scaled` meets its contract: the bits are those of 2^-k, and the product is one rounding.
-use lib.Dec.{le→leb}
-use lib.Ieee.{in_float}
-use Prim.Native.Nat.{◌^◌}
 use Rattle.kernels.proofs.Pattern.{pattern_number, assembled, assembled_lt, scaled_is}
 use Rattle.kernels.proofs.scaled.Goals as goal
-
-pub int_to_float-result : goal.int_to_float-result
-unfolding in_float
-int_to_float-result c = le→leb c.args.a (2 ^ 53) c.requires.0
 
 pub float_from_bits-result : goal.float_from_bits-result
 float_from_bits-result c = let k = c.args.k in pattern_number (assembled k c.requires.1) (assembled_lt k c.requires.1)
