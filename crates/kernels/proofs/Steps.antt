@@ -1,4 +1,4 @@
--- The steps of exp: a step with no branch, steps taken one list after another or entry by entry, and the bound 2^31 that none passes.
+-- The steps of exp: taken one list after another or entry by entry, and the bound 2^31 that none passes.
 use mathlib.Core.Path.{◌≡◌, refl, sym, ap, ◌∙◌}
 use mathlib.Core.Bool.{Bool, true, false, cond, ◌&&◌}
 use mathlib.Core.List.{List, [], ◌∷◌, ◌++◌}
