@@ -5,16 +5,17 @@
 
 #![tactic(auto)]
 
-ghost use Rattle.std.specs.Prelude.{◌≡◌, ◌≤◌, length};
-ghost use Rattle.floats.specs.Float.{minus_infinity, is_number, at};
-ghost use Rattle.lists.specs.Lists.{first_bad, over};
+ghost use Rattle.std.specs.Prelude.{◌≡◌, ◌≤◌, length, position};
+ghost use Rattle.std.specs.Float.Ieee.{is_nan};
+ghost use Rattle.floats.specs.Float.{minus_infinity, at};
+ghost use Rattle.lists.specs.Lists.{over};
 ghost use Rattle.kernels.specs.Calls.{exp_answer, ln_answer, ln1m_answer};
 ghost use Rattle.sums.specs.Pair.{ln_cumsum};
 ghost use Rattle.probs.specs.Calls.{is_valid, checked_answer, cap_answer, ln_sum_exp_answer, ln_add_exp_answer, ln_sub_exp_answer};
 ghost use Rattle.probs.specs.Calls.{Cumulated, cumsums, scaled_answer, log_to_phred, phred_to_log};
 
 use answer::{Answer, Refusal, done, refused};
-use floats::{is_number, minus_infinity};
+use floats::minus_infinity;
 use sums::pair::{ln_add, ln_sub};
 use sums::sum::ln_sum;
 
@@ -30,6 +31,7 @@ pub struct Prob(pub f64);
 
 impl Prob {
     // p itself, where it is from 0 to 1; else 7.
+    #[tactic(auto, using(floats::proofs::Literals::nought_bits, std::proofs::lemmas::Float::one_f64_is), unfolding(crate::specs::Calls::checked_answer))]
     pub fn checked(p: f64) -> Answer
         ensures { result ≡ checked_answer p }
     {
@@ -56,7 +58,7 @@ impl LogProb {
         self.0 <= 0.0
     }
 
-    // Log-space representation of Pr=0: minus infinity. A function, since no constant of the language can hold an infinity.
+    // Log-space representation of Pr=0: minus infinity.
     pub fn ln_zero() -> LogProb
         ensures { result.0 ≡ minus_infinity }
     {
@@ -67,10 +69,11 @@ impl LogProb {
     pub const LN_ONE: LogProb = LogProb(0.0);
 
     // The value, or 0.0 where it is above 0 by no more than epsilon; 11 where it is by more, and where either is NaN.
+    #[tactic(auto, using(crate::proofs::Overshoot::ways_out))]
     pub fn cap_numerical_overshoot(self, epsilon: f64) -> Answer
         ensures { result ≡ cap_answer self.0 epsilon }
     {
-        if !is_number(epsilon) {
+        if epsilon.is_nan() {
             return refused(Refusal::Overshoot, 0, 0);
         }
         if self.0 <= 0.0 {
@@ -89,36 +92,35 @@ impl LogProb {
         kernels::ln_1m_exp(self.0)
     }
 
-    // The sum of probabilities in log-space: minus infinity where there are none; 7 at the first NaN. The slice is of f64, since a
-    // slice of structs gets no help with its proof.
+    // The sum of probabilities in log-space: minus infinity where there are none; 7 at the first NaN. The slice is of f64, as C lends it.
+    #[tactic(auto, using(crate::proofs::Nan::nan_or_not))]
     pub fn ln_sum_exp(probs: &[f64]) -> Answer
         ensures { result ≡ ln_sum_exp_answer probs.now }
     {
-        let i = first_nan(probs);
-        if i < probs.len() {
-            return refused(Refusal::NotGood, 0, i);
+        if let Some(place) = first_nan(probs) {
+            return refused(Refusal::NotGood, 0, place);
         }
         done(ln_sum(probs))
     }
 
     // The sum of two probabilities in log-space: 7 where one is NaN.
+    #[tactic(auto, using(crate::proofs::Nan::nan_or_not))]
     pub fn ln_add_exp(self, other: LogProb) -> Answer
         ensures { result ≡ ln_add_exp_answer self.0 other.0 }
     {
-        let i = first_nan(&[self.0, other.0]);
-        if i < 2 {
-            return refused(Refusal::NotGood, 0, i);
+        if let Some(place) = first_nan(&[self.0, other.0]) {
+            return refused(Refusal::NotGood, 0, place);
         }
         done(ln_add(self.0, other.0))
     }
 
     // The difference of two probabilities in log-space: 7 where one is NaN, then 10 where the second is the greater.
+    #[tactic(auto, using(crate::proofs::Nan::nan_or_not))]
     pub fn ln_sub_exp(self, other: LogProb) -> Answer
         ensures { result ≡ ln_sub_exp_answer self.0 other.0 }
     {
-        let i = first_nan(&[self.0, other.0]);
-        if i < 2 {
-            return refused(Refusal::NotGood, 0, i);
+        if let Some(place) = first_nan(&[self.0, other.0]) {
+            return refused(Refusal::NotGood, 0, place);
         }
         if self.0 < other.0 {
             return refused(Refusal::NegativeDifference, 0, 0);
@@ -128,15 +130,15 @@ impl LogProb {
 
     // The cumulative sums of probs, into the front of sums, output 5; the rest of sums stays. The value is the last sum, minus infinity
     // where there is none. Where sums is too short it is 6, then 7 at the first NaN, and nothing is written.
+    #[tactic(auto, using(crate::proofs::Nan::nan_or_not), unfolding(crate::specs::Calls::ln_cumsum_exp_answer))]
     pub fn ln_cumsum_exp(probs: &[f64], sums: &mut [f64]) -> Answer
         ensures { Cumulated probs.now sums.old sums.new result }
     {
         if sums.len() < probs.len() {
             return refused(Refusal::OutputTooShort, 5, sums.len());
         }
-        let i = first_nan(probs);
-        if i < probs.len() {
-            return refused(Refusal::NotGood, 0, i);
+        if let Some(place) = first_nan(probs) {
+            return refused(Refusal::NotGood, 0, place);
         }
         done(LogProb::scan_ln_add_exp(probs, sums))
     }
@@ -147,14 +149,12 @@ impl LogProb {
         ensures value { result ≡ ln_cumsum (length probs.now) (at probs.now) }
         ensures sums_after { sums.new ≡ over 0 (cumsums probs.now) sums.old }
     {
-        let mut s = minus_infinity();
-        let mut i = 0;
-        while i < probs.len() {
-            s = ln_add(s, probs[i]);
-            sums[i] = s;
-            i += 1;
+        let mut sum = minus_infinity();
+        for i in 0..probs.len() {
+            sum = ln_add(sum, probs[i]);
+            sums[i] = sum;
         }
-        s
+        sum
     }
 }
 
@@ -176,6 +176,7 @@ impl LogProb {
     }
 
     // The log-probability of a PHRED-scaled probability: 7 where it is NaN.
+    #[tactic(auto, using(crate::proofs::Factors::phred_to_log_lem))]
     pub fn from_phred_prob(p: PHREDProb) -> Answer
         ensures { result ≡ scaled_answer phred_to_log p.0 }
     {
@@ -185,6 +186,7 @@ impl LogProb {
 
 impl PHREDProb {
     // The PHRED-scaled probability of a log-probability: 7 where it is NaN.
+    #[tactic(auto, using(crate::proofs::Factors::log_to_phred_lem))]
     pub fn from_log_prob(p: LogProb) -> Answer
         ensures { result ≡ scaled_answer log_to_phred p.0 }
     {
@@ -193,25 +195,20 @@ impl PHREDProb {
 }
 
 // x times the factor: 7 where x is NaN.
+#[tactic(auto, unfolding(crate::specs::Calls::scaled_answer))]
 fn scaled(x: f64, factor: f64) -> Answer
     ensures { result ≡ scaled_answer factor x }
 {
-    if is_number(x) {
-        return done(x * factor);
+    if x.is_nan() {
+        refused(Refusal::NotGood, 0, 0)
+    } else {
+        done(x * factor)
     }
-    refused(Refusal::NotGood, 0, 0)
 }
 
-// The first index of a NaN, or the length where there is none.
-fn first_nan(xs: &[f64]) -> usize
-    ensures { result ≡ first_bad is_number xs.now }
+// The first index of a NaN.
+fn first_nan(xs: &[f64]) -> Option<usize>
+    ensures { result ≡ position is_nan xs.now }
 {
-    let mut i = 0;
-    while i < xs.len() {
-        if !is_number(xs[i]) {
-            return i;
-        }
-        i += 1;
-    }
-    i
+    xs.iter().position(|x| x.is_nan())
 }
