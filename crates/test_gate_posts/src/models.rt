@@ -13,9 +13,9 @@ pub const TINY: f64 = -1.1102230246251565e-16;
 // A shape of two symbols.
 pub fn shape(states: usize, ends: bool) -> Shape {
     Shape {
-        states: states,
+        states,
         symbols: 2,
-        ends: ends,
+        ends,
     }
 }
 
