@@ -5,81 +5,72 @@
 
 #![tactic(auto)]
 
+ghost use Rattle.std.specs.Prelude.{◌<◌, IfOk, IfSome};
+
+mod cases;
 mod files;
-mod leaves;
 mod report;
 mod walks;
 
-use frozen_list::cases::{call_of, numbers_of};
+use frozen_list::cases::call_of;
 use frozen_list::tally;
 use frozen_list::tally::KINDS;
-use program_io::lines::text;
 use program_io::words::{read_full, read_words};
 use std::io;
 use std::io::Read;
 
-// Whether the case differs from what its call does.
-fn differs(case: &[u64], call: u64) -> bool {
-    let mut space = [0.0; 8192];
-    numbers_of(case, &mut space);
-    if call < 4 || call == 21 {
-        return walks::on_model(case, &space, call);
-    }
-    if call < 18 {
-        return leaves::on_numbers(case, &space, call);
-    }
-    files::on_file(case, &space, call)
-}
-
-// The kind of the case that fills the space; 256 where the input has no whole case.
-fn replay_case(input: &mut impl Read, space: &mut [u64]) -> io::Result<usize> {
+// The kind of the case that fills the space; none where the input has not all of it, or there is no such call.
+fn replay_case(input: &mut impl Read, space: &mut [u64]) -> io::Result<Option<usize>>
+    ensures { IfOk result (λ kind. IfSome kind (λ k. k < 256)) }
+{
     if read_words(input, space)? < space.len() {
-        return Ok(KINDS);
+        return Ok(None);
     }
-    Ok(tally::kind(space, differs(space, call_of(space))))
+    match call_of(space) {
+        Some(call) => Ok(tally::kind(space, cases::differs(space, call))),
+        None => Ok(None),
+    }
 }
 
-// The kind of the next case of the input.
-fn replay_next(input: &mut impl Read) -> io::Result<usize> {
-    let mut space = [0u64; 8192];
-    let mut size = [0u64; 1];
-    if read_words(input, &mut size)? == 1 {
-        let n = size[0] as usize;
-        if n <= 8192 {
-            return replay_case(input, &mut space[..n]);
-        }
+// The kind of the next case of the input; none where there is no such case.
+fn replay_next(input: &mut impl Read) -> io::Result<Option<usize>>
+    ensures { IfOk result (λ kind. IfSome kind (λ k. k < 256)) }
+{
+    let mut size = [0; 1];
+    let mut space = [0; 8192];
+    if read_words(input, &mut size)? < 1 || size[0] > 8192 {
+        return Ok(None);
     }
-    Ok(KINDS)
+    replay_case(input, &mut space[..size[0] as usize])
 }
 
 // Whether the input is at its end.
 fn ended(input: &mut impl Read) -> io::Result<bool> {
-    let mut after = [0u8; 1];
-    Ok(read_full(input, &mut after[..])? == 0)
+    let mut after = [0; 1];
+    Ok(read_full(input, &mut after)? == 0)
 }
 
 // Replays so many cases and prints what they came to.
 fn replay(rt: &impl Print, input: &mut impl Read, count: u64) -> io::Result<()> {
-    let mut counts = [0u64; KINDS];
-    let mut i = 0;
-    while i < count {
-        let kind = replay_next(input)?;
-        if kind >= KINDS {
+    let mut counts = [0; KINDS];
+    let mut whole = true;
+    for _ in 0..count {
+        let Some(kind) = replay_next(input)? else {
+            whole = false;
             break;
-        }
+        };
         tally::add(&mut counts, kind);
-        i += 1;
     }
     report::print(rt, &counts)?;
-    if i < count || !ended(input)? {
-        text(rt, b"the list is not whole\n")?;
+    if !whole || !ended(input)? {
+        println!(rt; "the list is not whole")?;
     }
     Ok(())
 }
 
 fn main(rt: HostRuntime) -> io::Result<()> {
     let mut input = rt.stdin();
-    let mut count = [0u64; 1];
+    let mut count = [0; 1];
     read_words(&mut input, &mut count)?;
     replay(&rt, &mut input, count[0])
 }

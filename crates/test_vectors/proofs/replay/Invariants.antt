@@ -1,9 +1,0 @@
--- `test_vectors::replay` is safe and ends: the cases replayed are at most count, which they near.
-use Rattle.std.proofs.Common.{◌-◌, ◌≤◌}
-use Rattle.test_vectors.proofs.replay.Given as goal
-
-abbrev pub invariant-loop-i : goal.invariant-loop-i
-invariant-loop-i g l = l.i ≤ l.count
-
-abbrev pub decreases-loop-i : goal.decreases-loop-i
-decreases-loop-i g l = l.count - l.i
