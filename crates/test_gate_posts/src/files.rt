@@ -1,5 +1,5 @@
 // The examples of the model file: F1 to F5.
-use crate::models::{EMISSION, INITIAL, TRANSITION, shape};
+use crate::models::{EMISSION, INITIAL, TRANSITION, lend, shape};
 use crate::print;
 use model_file::{read_model, write_model};
 use program_io::lines::Shown;
@@ -7,14 +7,15 @@ use std::io;
 
 // Model P, with an end state or without one, written: the answer and the lent bytes.
 fn write(rt: &impl Print, label: &str, ends: bool, end: &[f64], file: &mut [u8]) -> io::Result<()> {
-    let a = write_model(
+    let lent = lend(
         shape(2, ends),
         &TRANSITION,
         &EMISSION,
         &INITIAL,
         end,
-        &mut file[..],
+        &[],
     );
+    let a = write_model(&lent.tables, &mut file[..]);
     print!(rt; "{label}: {}", Shown(a))?;
     print::bytes(rt, file)?;
     println!(rt)

@@ -1,5 +1,5 @@
 // The tables of model P, the small entry of model A, and the shapes.
-use model::Shape;
+use model::{Lent, Shape, Tables};
 
 pub const TRANSITION: [f64; 4] = [-1.0, -2.0, -2.0, -1.0];
 
@@ -26,4 +26,23 @@ pub fn single() -> Shape {
         symbols: 1,
         ends: false,
     }
+}
+
+// A model and samples, as a call is lent them.
+pub fn lend<'a>(
+    shape: Shape,
+    transition: &'a [f64],
+    emission: &'a [f64],
+    initial: &'a [f64],
+    end: &'a [f64],
+    samples: &'a [u16],
+) -> Lent<'a> {
+    let tables = Tables {
+        shape,
+        transition,
+        emission,
+        initial,
+        end,
+    };
+    Lent { tables, samples }
 }

@@ -1,5 +1,5 @@
 // The example of a training pass: Z4.
-use crate::models::shape;
+use crate::models::{lend, shape};
 use baum_welch::baum_welch;
 use program_io::lines::Shown;
 use std::io;
@@ -13,12 +13,7 @@ pub fn no_mass(rt: &impl Print) -> io::Result<()> {
     let mut alpha = [0.0; 2];
     let mut beta = [0.0; 2];
     let pass = baum_welch(
-        shape(2, false),
-        &[0.0; 4],
-        &[0.0; 4],
-        &[0.0; 2],
-        &[0.0; 2],
-        &[0],
+        &lend(shape(2, false), &[0.0; 4], &[0.0; 4], &[0.0; 2], &[0.0; 2], &[0]),
         &mut new_transition,
         &mut new_emission,
         &mut new_initial,

@@ -1,8 +1,7 @@
 // The examples of `viterbi`: P1 to P6, E1 to E3, Z1, Z3 and A1.
-use crate::models::{EMISSION, INITIAL, TINY, TRANSITION, shape, single};
+use crate::models::{EMISSION, INITIAL, TINY, TRANSITION, lend, shape, single};
 use crate::print::states;
-use answer::is_done;
-use model::Shape;
+use model::Lent;
 use program_io::lines::Shown;
 use std::io;
 use viterbi::viterbi;
@@ -11,30 +10,20 @@ use viterbi::viterbi;
 fn decode(
     rt: &impl Print,
     label: &str,
-    shape: Shape,
-    transition: &[f64],
-    emission: &[f64],
-    initial: &[f64],
-    end: &[f64],
-    samples: &[u16],
+    lent: &Lent,
 ) -> io::Result<()> {
     let mut path = [0; 3];
     let mut values = [0.0; 9];
     let mut from = [0; 9];
     let a = viterbi(
-        shape,
-        transition,
-        emission,
-        initial,
-        end,
-        samples,
+        lent,
         &mut path,
         &mut values,
         &mut from,
     );
     print!(rt; "{label}: {}", Shown(a))?;
-    if is_done(a) {
-        states(rt, &path, samples.len())?;
+    if a.is_done() {
+        states(rt, &path, lent.samples.len())?;
     }
     println!(rt)
 }
@@ -50,12 +39,7 @@ fn decode_p(
     decode(
         rt,
         label,
-        shape(2, false),
-        &[transition, -2.0, -2.0, -1.0],
-        &[-1.0, -3.0, -3.0, emission],
-        &INITIAL,
-        &[0.0, 0.0],
-        samples,
+        &lend(shape(2, false), &[transition, -2.0, -2.0, -1.0], &[-1.0, -3.0, -3.0, emission], &INITIAL, &[0.0, 0.0], samples),
     )
 }
 
@@ -75,12 +59,7 @@ fn decode_ending(rt: &impl Print, label: &str, end: &[f64]) -> io::Result<()> {
     decode(
         rt,
         label,
-        shape(2, true),
-        &TRANSITION,
-        &EMISSION,
-        &INITIAL,
-        end,
-        &[0, 1, 1],
+        &lend(shape(2, true), &TRANSITION, &EMISSION, &INITIAL, end, &[0, 1, 1]),
     )
 }
 
@@ -89,12 +68,7 @@ fn decode_minus_zeros(rt: &impl Print, label: &str, ends: bool) -> io::Result<()
     decode(
         rt,
         label,
-        shape(2, ends),
-        &[0.0; 4],
-        &[-0.0; 4],
-        &[-0.0; 2],
-        &[0.0; 2],
-        &[0],
+        &lend(shape(2, ends), &[0.0; 4], &[-0.0; 4], &[-0.0; 2], &[0.0; 2], &[0]),
     )
 }
 
@@ -111,12 +85,7 @@ pub fn model_z(rt: &impl Print) -> io::Result<()> {
     decode(
         rt,
         "Z1",
-        shape(2, false),
-        &[0.0; 4],
-        &[0.0; 4],
-        &[0.0; 2],
-        &[0.0; 2],
-        &[0, 0],
+        &lend(shape(2, false), &[0.0; 4], &[0.0; 4], &[0.0; 2], &[0.0; 2], &[0, 0]),
     )
 }
 
@@ -125,12 +94,7 @@ pub fn no_beginning(rt: &impl Print) -> io::Result<()> {
     decode(
         rt,
         "Z3",
-        shape(3, false),
-        &[0.0; 9],
-        &[0.0; 6],
-        &[f64::NEG_INFINITY; 3],
-        &[0.0; 3],
-        &[0, 0],
+        &lend(shape(3, false), &[0.0; 9], &[0.0; 6], &[f64::NEG_INFINITY; 3], &[0.0; 3], &[0, 0]),
     )
 }
 
@@ -139,11 +103,6 @@ pub fn model_a(rt: &impl Print) -> io::Result<()> {
     decode(
         rt,
         "A1 viterbi",
-        single(),
-        &[TINY],
-        &[TINY],
-        &[-1.0],
-        &[0.0],
-        &[0, 0],
+        &lend(single(), &[TINY], &[TINY], &[-1.0], &[0.0], &[0, 0]),
     )
 }

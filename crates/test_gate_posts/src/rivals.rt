@@ -1,7 +1,7 @@
 // The examples of `rival`: R1 to R6.
-use crate::models::{EMISSION, INITIAL, TRANSITION, shape, single};
+use crate::models::{EMISSION, INITIAL, TRANSITION, lend, shape, single};
 use crate::print::states;
-use model::Shape;
+use model::Lent;
 use program_io::lines::{Bits, Shown};
 use rival::rival;
 use std::io;
@@ -11,12 +11,7 @@ use std::io;
 fn tell(
     rt: &impl Print,
     label: &str,
-    shape: Shape,
-    transition: &[f64],
-    emission: &[f64],
-    initial: &[f64],
-    end: &[f64],
-    samples: &[u16],
+    lent: &Lent,
     index: usize,
 ) -> io::Result<()> {
     let mut path = [255; 3];
@@ -24,12 +19,7 @@ fn tell(
     let mut values = [0.0; 6];
     let mut from = [0; 6];
     let rivalry = rival(
-        shape,
-        transition,
-        emission,
-        initial,
-        end,
-        samples,
+        lent,
         index,
         &mut path,
         &mut rival_path,
@@ -37,9 +27,9 @@ fn tell(
         &mut from,
     );
     print!(rt; "{label}: {}", Shown(rivalry.answer))?;
-    states(rt, &rival_path, samples.len())?;
+    states(rt, &rival_path, lent.samples.len())?;
     print!(rt; "; {} {}", rivalry.chosen, Bits(rivalry.best))?;
-    states(rt, &path, samples.len())?;
+    states(rt, &path, lent.samples.len())?;
     println!(rt)
 }
 
@@ -48,12 +38,7 @@ fn tell_p(rt: &impl Print, label: &str, index: usize) -> io::Result<()> {
     tell(
         rt,
         label,
-        shape(2, false),
-        &TRANSITION,
-        &EMISSION,
-        &INITIAL,
-        &[0.0; 2],
-        &[0, 1, 1],
+        &lend(shape(2, false), &TRANSITION, &EMISSION, &INITIAL, &[0.0; 2], &[0, 1, 1]),
         index,
     )
 }
@@ -69,7 +54,12 @@ pub fn model_p(rt: &impl Print) -> io::Result<()> {
 // R5: one state alone.
 pub fn one_state(rt: &impl Print) -> io::Result<()> {
     let table = [0.0];
-    tell(rt, "R5", single(), &table, &table, &table, &table, &[0], 0)
+    tell(
+        rt,
+        "R5",
+        &lend(single(), &table, &table, &table, &table, &[0]),
+        0,
+    )
 }
 
 // R6: model Z.
@@ -79,12 +69,7 @@ pub fn model_z(rt: &impl Print) -> io::Result<()> {
     tell(
         rt,
         "R6",
-        shape(2, false),
-        &rows,
-        &rows,
-        &row,
-        &row,
-        &[0, 0],
+        &lend(shape(2, false), &rows, &rows, &row, &row, &[0, 0]),
         0,
     )
 }

@@ -1,7 +1,7 @@
 // The examples of `forward` and `backward`: Z2, A1 and A2.
-use crate::models::{TINY, shape, single};
+use crate::models::{TINY, lend, shape, single};
 use likelihood::{backward, forward};
-use model::Shape;
+use model::Lent;
 use program_io::lines::Shown;
 use std::io;
 
@@ -10,31 +10,16 @@ fn both(
     rt: &impl Print,
     forward_label: &str,
     backward_label: &str,
-    shape: Shape,
-    transition: &[f64],
-    emission: &[f64],
-    initial: &[f64],
-    end: &[f64],
-    samples: &[u16],
+    lent: &Lent,
 ) -> io::Result<()> {
     let mut values = [0.0; 2];
     let ahead = forward(
-        shape,
-        transition,
-        emission,
-        initial,
-        end,
-        samples,
+        lent,
         &mut values,
     );
     println!(rt; "{forward_label}: {}", Shown(ahead))?;
     let back = backward(
-        shape,
-        transition,
-        emission,
-        initial,
-        end,
-        samples,
+        lent,
         &mut values,
     );
     println!(rt; "{backward_label}: {}", Shown(back))
@@ -46,12 +31,7 @@ pub fn one_sample(rt: &impl Print) -> io::Result<()> {
         rt,
         "Z2 forward",
         "Z2 backward",
-        shape(2, false),
-        &[0.0; 4],
-        &[0.0; 4],
-        &[0.0; 2],
-        &[0.0; 2],
-        &[0],
+        &lend(shape(2, false), &[0.0; 4], &[0.0; 4], &[0.0; 2], &[0.0; 2], &[0]),
     )
 }
 
@@ -61,11 +41,6 @@ pub fn model_a(rt: &impl Print) -> io::Result<()> {
         rt,
         "A1 forward",
         "A2",
-        single(),
-        &[TINY],
-        &[TINY],
-        &[-1.0],
-        &[0.0],
-        &[0, 0],
+        &lend(single(), &[TINY], &[TINY], &[-1.0], &[0.0], &[0, 0]),
     )
 }

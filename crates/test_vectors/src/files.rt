@@ -1,9 +1,9 @@
 // The cases of the model file: `read_model` has the file in list 0, then the shape and the tables that it is to leave; `write_model` has
 // shape, transition, emission, initial and end in lists 0 to 4, then the file that it is to leave; `file_length` has a shape alone.
-use crate::walks::shape_of;
+use crate::walks::{lent_of, shape_of};
 use answer::{Answer, done};
 use comparators::{MOST, answer_differs, changed, lent, shape_differs, untouched};
-use frozen_list::cases::{ends_with, table, unpack, words};
+use frozen_list::cases::{ends_with, unpack, words};
 use model_file::{file_length, read_model, write_model};
 use std::num::nearest_usize_to_f64;
 
@@ -45,14 +45,8 @@ pub fn read_differs(case: &[u64]) -> bool {
 // A case of `write_model`: the output is the file.
 pub fn write_differs(case: &[u64], tables: &[f64]) -> bool {
     let mut file = untouched();
-    let a = write_model(
-        shape_of(case),
-        table(case, tables, 1),
-        table(case, tables, 2),
-        table(case, tables, 3),
-        table(case, tables, 4),
-        lent(&mut file, case, 5),
-    );
+    let model = lent_of(case, tables, &[]).tables;
+    let a = write_model(&model, lent(&mut file, case, 5));
     answer_differs(case, a) | changed(&file, case, 5) | !ends_with(case, 5)
 }
 

@@ -5,7 +5,7 @@ use baum_welch::baum_welch;
 use comparators::{answer_differs, changed, choice_differs, lent, untouched};
 use frozen_list::cases::{ends_with, table, unpack, words};
 use likelihood::{backward, forward};
-use model::Shape;
+use model::{Lent, Shape, Tables};
 use program_io::words::word_at;
 use rival::rival;
 use viterbi::viterbi;
@@ -19,18 +19,25 @@ pub fn shape_of(case: &[u64]) -> Shape {
     }
 }
 
+// What a case of a call on a model is lent.
+pub fn lent_of<'a>(case: &[u64], tables: &'a [f64], samples: &'a [u16]) -> Lent<'a> {
+    let tables = Tables {
+        shape: shape_of(case),
+        transition: table(case, tables, 1),
+        emission: table(case, tables, 2),
+        initial: table(case, tables, 3),
+        end: table(case, tables, 4),
+    };
+    Lent { tables, samples }
+}
+
 // A case of `viterbi`: the outputs are path, values and from.
 pub fn viterbi_differs(case: &[u64], tables: &[f64], samples: &[u16]) -> bool {
     let mut path = untouched();
     let mut values = untouched();
     let mut from = untouched();
     let a = viterbi(
-        shape_of(case),
-        table(case, tables, 1),
-        table(case, tables, 2),
-        table(case, tables, 3),
-        table(case, tables, 4),
-        samples,
+        &lent_of(case, tables, samples),
         lent(&mut path, case, 6),
         lent(&mut values, case, 7),
         lent(&mut from, case, 8),
@@ -44,32 +51,14 @@ pub fn viterbi_differs(case: &[u64], tables: &[f64], samples: &[u16]) -> bool {
 
 // A case of `forward`: the output is values.
 pub fn forward_differs(case: &[u64], tables: &[f64], samples: &[u16]) -> bool {
-    output_differs(case, 6, |values| {
-        forward(
-            shape_of(case),
-            table(case, tables, 1),
-            table(case, tables, 2),
-            table(case, tables, 3),
-            table(case, tables, 4),
-            samples,
-            values,
-        )
-    })
+    let lent = lent_of(case, tables, samples);
+    output_differs(case, 6, |values| forward(&lent, values))
 }
 
 // A case of `backward`: the output is values.
 pub fn backward_differs(case: &[u64], tables: &[f64], samples: &[u16]) -> bool {
-    output_differs(case, 6, |values| {
-        backward(
-            shape_of(case),
-            table(case, tables, 1),
-            table(case, tables, 2),
-            table(case, tables, 3),
-            table(case, tables, 4),
-            samples,
-            values,
-        )
-    })
+    let lent = lent_of(case, tables, samples);
+    output_differs(case, 6, |values| backward(&lent, values))
 }
 
 // A case of `baum_welch`: the outputs are the four new tables, alpha and beta.
@@ -81,12 +70,7 @@ pub fn baum_welch_differs(case: &[u64], tables: &[f64], samples: &[u16]) -> bool
     let mut alpha = untouched();
     let mut beta = untouched();
     let a = baum_welch(
-        shape_of(case),
-        table(case, tables, 1),
-        table(case, tables, 2),
-        table(case, tables, 3),
-        table(case, tables, 4),
-        samples,
+        &lent_of(case, tables, samples),
         lent(&mut new_transition, case, 6),
         lent(&mut new_emission, case, 7),
         lent(&mut new_initial, case, 8),
@@ -111,12 +95,7 @@ pub fn rival_differs(case: &[u64], tables: &[f64], samples: &[u16]) -> bool {
     let mut values = untouched();
     let mut from = untouched();
     let rivalry = rival(
-        shape_of(case),
-        table(case, tables, 1),
-        table(case, tables, 2),
-        table(case, tables, 3),
-        table(case, tables, 4),
-        samples,
+        &lent_of(case, tables, samples),
         word_at(words(case, 6), 0) as usize,
         lent(&mut path, case, 8),
         lent(&mut rival_path, case, 9),
