@@ -8,7 +8,7 @@ ghost use Rattle.comparators.specs.Compare.{is_other, is_other_number, other_pla
 ghost use Rattle.comparators.specs.Compare.{answer_differs, shape_differs, choice_differs};
 ghost use Rattle.frozen_list.specs.Cases.{list_of};
 
-use answer::{Answer, number};
+use answer::Answer;
 use frozen_list::cases::{length, words};
 use model::Shape;
 use program_io::words::{FromWord, word_at};
@@ -83,7 +83,7 @@ pub fn changed<P: Place>(output: &[P; MOST], case: &[u64], k: usize) -> bool
 pub fn answer_differs(case: &[u64], a: Answer) -> bool
     ensures { result ≡ answer_differs case.now a }
 {
-    number(a.refusal).is_other(word_at(case, 1))
+    a.refusal.number().is_other(word_at(case, 1))
         || a.table.is_other(word_at(case, 2))
         || (a.place as u64 != word_at(case, 3))
         || a.value.is_other(word_at(case, 4))

@@ -1,5 +1,5 @@
 // How numbers and answers stand on lines of standard output.
-use answer::{Answer, number};
+use answer::Answer;
 use std::fmt;
 
 // A number by its bits, as 16 hexadecimal digits, and a NaN by its name.
@@ -27,6 +27,6 @@ impl fmt::Display for Shown {
             place,
             value,
         } = self.0;
-        write!(f, "{} {table} {place} {}", number(refusal), Bits(value))
+        write!(f, "{} {table} {place} {}", refusal.number(), Bits(value))
     }
 }
