@@ -105,9 +105,10 @@ impl Way for Beta {
 
     ghost BACK = { true };
 
-    #[tactic(auto, unfolding(lists::specs::Lists::over))]
     fn begin(initial: &[f64], end: &[f64], emissions: &[f64], values: &mut [f64]) {
-        values[..end.len()].copy_from_slice(end);
+        for j in 0..end.len() {
+            values[j] = entry(end, j);
+        }
     }
 
     #[tactic(auto, unfolding(crate::specs::inner::Row::cell_term))]

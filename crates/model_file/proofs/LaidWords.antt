@@ -1,9 +1,8 @@
 -- Words laid out as floats, one a turn.
-use Rattle.std.proofs.Common.{◌≡◌, ℕ, ◌+◌, ◌*◌, ◌<◌, true, List, length, replicate, sym, ap, ◌∙◌, arith, ext_get_or}
-use lib.ListN.{length-map, get_or-map, length-replicate, get_or-replicate}
-use lib.Ieee.{Float, binary64, of_bits}
-use Rattle.floats.specs.Float.{nought}
-use Rattle.lists.specs.Lists.{over, part, tab}
+use Rattle.std.proofs.Common.{◌≡◌, ℕ, ◌+◌, ◌*◌, ◌^◌, ◌<◌, not, T, List, length, sym, ap, ◌∙◌, arith, ext_get_or}
+use lib.ListN.{length-map, get_or-map}
+use lib.Ieee.{Float, binary64, of_bits, nan_bits}
+use Rattle.lists.specs.Lists.{part, tab}
 use Rattle.lists.proofs.Over.{get_or_tab, length_tab}
 use Rattle.lists.proofs.Scan.{all_pass}
 use Rattle.little_endian.specs.Bytes.{value, words}
@@ -11,6 +10,8 @@ use Rattle.little_endian.proofs.Bytes.{length_words}
 use Rattle.little_endian.proofs.Summing.{word_in}
 use Rattle.model.specs.Good.{good_bits}
 use Rattle.file_layout.specs.Reading.{floats}
+use Rattle.file_layout.proofs.Within.{body_within, good_read}
+use Rattle.model.proofs.GoodBits.{good_not_nan}
 use Rattle.model_file.specs.inner.Laying.{Layable}
 
 -- the float of word i
@@ -27,24 +28,16 @@ floats_tab file at n =
     get_or_tab n (float_at file at) i (of_bits binary64 0) k ∙ ap (of_bits binary64) (sym (word_in file at n i k))
     ∙ sym (get_or-map (of_bits binary64) ws i 0))
 
-pub zeros_tab : (n : ℕ) → tab n (λ (i : ℕ). nought) ≡ replicate n nought
-zeros_tab n =
-    ext_get_or nought (tab n (λ (i : ℕ). nought)) (replicate n nought) (length_tab n (λ (i : ℕ). nought) ∙ sym (length-replicate n nought))
-    (λ (i : ℕ) h. let k : i < n = rw length_tab at h in get_or_tab n (λ (i : ℕ). nought) i nought k ∙ sym (get_or-replicate n i nought nought k))
-
--- each word that is read is good
-pub word_good : (file : List ℕ) (at n : ℕ) (table : List Float) → Layable file at n table → (i x : ℕ) → i < n → x ≡ value (part (at + 8 * i) 8 file)
-    → good_bits x ≡ true
-word_good file at n table h i x l e =
+-- each word that is read is good, and so that of a number
+pub word_number : (file : List ℕ) (at n : ℕ) (table : List Float) → Layable file at n table → (i x : ℕ) → i < n → x < 2 ^ 64
+    → x ≡ value (part (at + 8 * i) 8 file) → T (not (nan_bits binary64 x))
+word_number file at n table h i x l small e =
     let ws = words n (part at (8 * n) file) in
-    ap good_bits (e ∙ sym (word_in file at n i l))
-    ∙ all_pass good_bits 0 ws (omega (arith, h.good, length_words n (part at (8 * n) file))) i
-    (omega (arith, length_words n (part at (8 * n) file)))
+    let long = length_words n (part at (8 * n) file) in
+    good_not_nan x small
+    (ap good_bits (e ∙ sym (word_in file at n i l)) ∙ all_pass good_bits 0 ws (omega (arith, h.good)) i (omega arith))
 
--- what the loops leave
-pub words_laid : (file : List ℕ) (at n : ℕ) (l cur : List Float) → cur ≡ over 0 (tab n (float_at file at)) l
-    → cur ≡ over 0 (floats (words n (part at (8 * n) file))) l
-words_laid file at n l cur e = e ∙ ap (λ (p : List Float). over 0 p l) (floats_tab file at n)
+-- for `lay_words`, and for `lay_table`
+pub ruleset laid_words = (floats_tab, word_number)
 
-pub zeros_laid : (n : ℕ) (l cur : List Float) → cur ≡ over 0 (tab n (λ (i : ℕ). nought)) l → cur ≡ over 0 (replicate n nought) l
-zeros_laid n l cur e = e ∙ ap (λ (p : List Float). over 0 p l) (zeros_tab n)
+pub ruleset laid_table = (body_within, good_read)

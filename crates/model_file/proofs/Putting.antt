@@ -1,8 +1,7 @@
 -- Bytes and words written one after the other.
-use Rattle.std.proofs.Common.{◌≡◌, ℕ, ◌+◌, ◌*◌, ◌%◌, ◌^◌, ◌<◌, ◌≤◌, List, [], ◌∷◌, ◌++◌, length, get_or, take, sym, refl, ap, ◌∙◌, ap₂, append_assoc, add-one, arith, length-append, length-take-le, take-suc}
+use Rattle.std.proofs.Common.{◌≡◌, ℕ, ◌+◌, ◌*◌, ◌%◌, ◌^◌, ◌<◌, ◌≤◌, List, [], ◌∷◌, ◌++◌, length, get_or, take, sym, refl, ap, ◌∙◌, append_assoc, add-one, arith, length-append, length-take-le, take-suc}
 use native.Mathlib.Nat.{mod-add-mod}
 use lib.ListN.{length-map}
-use lib.Seq.{take-length}
 use lib.Ieee.{Float, binary64, to_bits, nan}
 use Rattle.lists.specs.Lists.{over}
 use Rattle.lists.proofs.Over.{over_next, length_over, over_none}
@@ -30,21 +29,17 @@ module _ (xs : List Float) where
   unfolding sum total
   table_none = record { within = omega arith; is = refl }
 
-  pub table_more : (s i w t : ℕ) → SummedTable s i → i < length xs → w ≡ to_bits binary64 (get_or xs i nan) → t ≡ (s + w) % 2 ^ 64
-      → SummedTable t (i + 1)
+  pub table_more : (s i : ℕ) → SummedTable s i → i < length xs → SummedTable ((s + to_bits binary64 (get_or xs i nan)) % 2 ^ 64) (i + 1)
   unfolding sum
-  table_more s i w t h l e q =
+  table_more s i h l =
+      let w = to_bits binary64 (get_or xs i nan) in
       record {
         within = omega arith;
         is =
-            q ∙ ap₂ (λ (a b : ℕ). (a + b) % 2 ^ 64) h.is e ∙ mod-add-mod (total (bits (take i xs))) (2 ^ 64) _
+            ap (λ (a : ℕ). (a + w) % 2 ^ 64) h.is ∙ mod-add-mod (total (bits (take i xs))) (2 ^ 64) _
             ∙ ap (λ (k : ℕ). k % 2 ^ 64) (sym (ap total (front_more xs i l) ∙ total_both (bits (take i xs)) _ ∙ ap
             (λ (k : ℕ). total (bits (take i xs)) + k) (one_total _)));
       }
-
-  pub table_all : (s i : ℕ) → SummedTable s i → length xs ≤ i → s ≡ sum (bits xs)
-  table_all s i h l = let e : i ≡ length xs = let w = h.within in omega arith in h.is ∙ ap (λ (k : ℕ). sum (bits (take k xs))) e
-      ∙ ap (λ (ys : List Float). sum (bits ys)) (take-length xs)
 
   -- a loop that writes them
   module _ (at : ℕ) (l : List ℕ) where
@@ -60,27 +55,21 @@ module _ (xs : List Float) where
     length_front : (i : ℕ) → i ≤ length xs → length (bytes (bits (take i xs))) ≡ 8 * i
     length_front i h = length_bytes (bits (take i xs)) ∙ ap (λ (k : ℕ). 8 * k) (length-map (take i xs) (to_bits binary64) ∙ length-take-le i xs h)
 
-    pub put_more : (cur next : List ℕ) (i w : ℕ) → PutTable cur i → i < length xs → at + 8 * length xs ≤ length l
-        → w ≡ to_bits binary64 (get_or xs i nan)
-        → next ≡ over (at + 8 * i) (little 8 w) cur → PutTable next (i + 1)
-    put_more cur next i w h k room e q =
+    pub put_more : (cur next : List ℕ) (i : ℕ) → PutTable cur i → i < length xs → at + 8 * length xs ≤ length l
+        → next ≡ over (at + 8 * i) (little 8 (to_bits binary64 (get_or xs i nan))) cur → PutTable next (i + 1)
+    put_more cur next i h k room q =
+        let w = to_bits binary64 (get_or xs i nan) in
         let f = length_front i (omega arith) in
         let n : next ≡ over at (bytes (bits (take i xs)) ++ little 8 w) l = q
         ∙ over_next at (at + 8 * i) (bytes (bits (take i xs))) (little 8 w) l cur h.is (omega arith) (rw length_little (omega arith)) in
         let b : bytes (bits (take i xs)) ++ little 8 w ≡ bytes (bits (take (i + 1) xs))
-        = ap (λ (v : ℕ). bytes (bits (take i xs)) ++ little 8 v) e
-        ∙ sym (ap bytes (front_more xs i k) ∙ bytes_both (bits (take i xs)) _ ∙ ap (λ (z : List ℕ). bytes (bits (take i xs)) ++ z) (one_word _))
-        in
+        = sym (ap bytes (front_more xs i k) ∙ bytes_both (bits (take i xs)) _ ∙ ap (λ (z : List ℕ). bytes (bits (take i xs)) ++ z) (one_word _)) in
         let is' : next ≡ over at (bytes (bits (take (i + 1) xs))) l = n ∙ ap (λ (z : List ℕ). over at z l) b in
         record {
           within = omega arith;
           kept = ap length is' ∙ length_over at _ l (rw (length_front (i + 1) (omega arith)) (omega arith));
           is = is';
         }
-
-    pub put_all : (cur : List ℕ) (i : ℕ) → PutTable cur i → length xs ≤ i → cur ≡ over at (bytes (bits xs)) l
-    put_all cur i h k = let e : i ≡ length xs = let w = h.within in omega arith in h.is ∙ ap (λ (j : ℕ). over at (bytes (bits (take j xs))) l) e
-        ∙ ap (λ (ys : List Float). over at (bytes (bits ys)) l) (take-length xs)
 
 -- ---- the parts of a file, one number after the other
 pub entry_put : (sh : Shape) (i : ℕ) (xs : List Float) (l a b c : List ℕ) (o s : ℕ) → 24 + i * 16 ≤ length l → a ≡ over (8 + i * 16) (little 4 i) l
@@ -113,3 +102,8 @@ first_put sh l a b c d g n room pa pb eg pc en pd =
     ∙ over_next 0 6 ((s ++ m) ++ little 2 (flag sh)) (little 2 (count sh)) l c three
     (rw (length-append, length-append, length_little, length_little, length_little) (omega arith)) (rw length_little (omega arith))
     ∙ ap (λ (p : List ℕ). over 0 p l) (simp append_assoc)
+
+-- for `sum_of_table`, and for `put_words`
+pub ruleset summed_table = (table_none, table_more)
+
+pub ruleset put_table = (put_none, put_more)

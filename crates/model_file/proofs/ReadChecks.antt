@@ -1,9 +1,7 @@
 -- The checks of a reader in their order, and what is known once none finds fault.
-use Rattle.std.proofs.Common.{◌≡◌, ℕ, ◌*◌, ◌<◌, ◌≤◌, Bool, true, false, cond, not, List, [], ◌∷◌, ◌++◌, length, replicate, sym, refl, ap, ◌∙◌, true≢false, arith, ltb-false}
-use lib.Ieee.{Float}
-use Rattle.floats.specs.Float.{nought}
-use Rattle.lists.specs.Lists.{first_bad, over}
-use Rattle.answer.specs.Answer.{done, is_done}
+use Rattle.std.proofs.Common.{◌≡◌, ℕ, ◌*◌, ◌<◌, ◌≤◌, Bool, true, false, not, List, [], ◌∷◌, ◌++◌, length, ap, ◌∙◌, arith, ltb-false}
+use Rattle.lists.specs.Lists.{first_bad}
+use Rattle.answer.specs.Answer.{is_done}
 use Rattle.answer.specs.Checks.{Tests, first_of}
 use Rattle.answer.proofs.Checks.{Clear, Refuses, refuse_both, clear, clear_left, clear_right, goes_on, passed_by, refused_by}
 use Rattle.checks.specs.declared.Room.{Room}
@@ -12,13 +10,13 @@ use Rattle.checks.specs.Checks.{room_tests}
 use Rattle.checks.proofs.Rooms.{rooms_refuse}
 use Rattle.checks.proofs.Done.{is_roomy}
 use Rattle.model.specs.Good.{good_bits}
-use Rattle.model_file.specs.Call.{Outputs, no_shape, read_check, Read}
 use Rattle.file_layout.specs.Checks.{file_tests, layout_tests, read_rooms, read_tests, sum_tests, word_test, word_tests}
 use Rattle.file_layout.specs.Layout.{count, size}
-use Rattle.file_layout.specs.Reading.{body_at, body_of, end_at, end_of, floats, shape_of}
+use Rattle.file_layout.specs.Reading.{body_of, shape_of}
 use Rattle.model_file.specs.inner.Laying.{Laying, LayingEnd}
 use Rattle.file_layout.specs.inner.Whole.{Whole}
 use Rattle.file_layout.proofs.Accepting.{file_refuses, laid, tab_clear, tab_refuses}
+use Rattle.file_layout.proofs.Bounds.{count_low, square_small, product_small}
 use Rattle.file_layout.proofs.Fits.{fits_length}
 use Rattle.file_layout.proofs.Whole.{length_pattern}
 use Rattle.file_layout.proofs.Within.{length_body}
@@ -105,7 +103,7 @@ module _ (f : List ℕ) (a b c d : ℕ) where
       omega (arith, k, length_body (shape_of f) f i)
 
   module _ (sh : Shape) (own : sh ≡ shape_of f) (r : Readable) where
-    pub laying : (i places : ℕ) → i < count sh → size (shape_of f) i ≤ places → Laying sh f i places
+    laying : (i places : ℕ) → i < count sh → size (shape_of f) i ≤ places → Laying sh f i places
     laying i places l h =
         record {
           whole = clear_whole f sh own r.file;
@@ -114,8 +112,8 @@ module _ (f : List ℕ) (a b c d : ℕ) where
           good = rw own (all_good r i (rw own at l));
         }
 
-    pub laying_end : (places : ℕ) → size (shape_of f) 3 ≤ places → LayingEnd sh f places
-    laying_end places h =
+    laying_end_lem : (places : ℕ) → size (shape_of f) 3 ≤ places → LayingEnd sh f places
+    laying_end_lem places h =
         record {
           roomy = rw own (three h);
           given = λ (e : sh.ends ≡ true). laying 3 places (rw e (omega arith)) h;
@@ -124,56 +122,28 @@ module _ (f : List ℕ) (a b c d : ℕ) where
         three : size (shape_of f) 3 ≤ places → (shape_of f).states ≤ places
         three h = unfold size in h
 
--- ---- what the lent tables hold at the end
-given_end : (b : Bool) (x y : List Float) → b ≡ true → x ≡ cond b x y
-given_end true x y e = refl
-given_end false x y e = absurd (true≢false (sym e))
+  -- once the checks are done, the shape can be read
+  pub done_enough : is_done (first_of (read_tests f a b c d)) ≡ true → 8 ≤ length f
+  done_enough ok = clear_enough f (read_done ok).file
 
-absent_end : (b : Bool) (x y : List Float) → b ≡ false → y ≡ cond b x y
-absent_end true x y e = absurd (true≢false e)
-absent_end false x y e = refl
+  -- and each table can be laid
+  module _ (sh : Shape) (own : sh ≡ shape_of f) (ok : is_done (first_of (read_tests f a b c d)) ≡ true) where
+    readable : Readable
+    readable = read_done ok
 
-module _ (sh : Shape) (f : List ℕ) (l cur : List Float) where
-  pub end_given : sh.ends ≡ true → cur ≡ over 0 (floats (body_at sh f 3)) l → cur ≡ over 0 (end_at sh f) l
-  unfolding end_at
-  end_given e h = h ∙ ap (λ (p : List Float). over 0 p l) (given_end sh.ends _ _ e)
+    pub laying_transition : Laying sh f 0 a
+    laying_transition = laying sh own readable 0 a (omega (arith, count_low sh)) readable.roomy.0
 
-  pub end_absent : sh.ends ≡ false → cur ≡ over 0 (replicate sh.states nought) l → cur ≡ over 0 (end_at sh f) l
-  unfolding end_at
-  end_absent e h = h ∙ ap (λ (p : List Float). over 0 p l) (absent_end sh.ends _ _ e)
+    pub laying_emission : Laying sh f 1 b
+    laying_emission = laying sh own readable 1 b (omega (arith, count_low sh)) readable.roomy.1.0
 
--- a table of the file, by the shape that was read
-pub own_table : (sh : Shape) (f : List ℕ) → sh ≡ shape_of f → (i : ℕ) (l cur : List Float) → cur ≡ over 0 (floats (body_at sh f i)) l
-    → cur ≡ over 0 (floats (body_of f i)) l
-own_table sh f own i l cur e = e ∙ ap (λ (s : Shape). over 0 (floats (body_at s f i)) l) own
+    pub laying_initial : Laying sh f 2 c
+    laying_initial = laying sh own readable 2 c (omega (arith, count_low sh)) readable.roomy.1.1.0
 
-pub own_end : (sh : Shape) (f : List ℕ) → sh ≡ shape_of f → (l cur : List Float) → cur ≡ over 0 (end_at sh f) l → cur ≡ over 0 (end_of f) l
-own_end sh f own l cur e = e ∙ ap (λ (s : Shape). over 0 (end_at s f) l) own
+    pub laying_end : LayingEnd sh f d
+    laying_end = laying_end_lem sh own readable d readable.roomy.1.1.1.0
 
--- ---- the two ways in which a reader ends
-module _ (f : List ℕ) (o : Outputs) where
-  pub is_refused : (r : Answer) (sh : Shape) → is_done (read_check f o) ≡ false → r ≡ read_check f o → sh ≡ no_shape
-      → Read f o (record { answer = r; shape = sh }) o
-  is_refused r sh not-ok e s =
-      record {
-        answer = rw not-ok e;
-        shape = rw not-ok s;
-        transition = rw not-ok;
-        emission = rw not-ok;
-        initial = rw not-ok;
-        end = rw not-ok;
-      }
+-- for `check_read`, and for `read_model`
+pub ruleset read_steps = (clear_whole, clear_enough, read_file, passed_file, read_rooms_lem, read_words, square_small, product_small)
 
-  pub is_read : (r : Answer) (sh : Shape) (e : Outputs) → is_done (read_check f o) ≡ true → r ≡ done nought → sh ≡ shape_of f
-      → e.transition ≡ over 0 (floats (body_at sh f 0)) o.transition → e.emission ≡ over 0 (floats (body_at sh f 1)) o.emission
-      → e.initial ≡ over 0 (floats (body_at sh f 2)) o.initial → e.end ≡ over 0 (end_at sh f) o.end
-      → Read f o (record { answer = r; shape = sh }) e
-  is_read r sh e ok d own t m n x =
-      record {
-        answer = rw ok d;
-        shape = rw ok own;
-        transition = rw ok (own_table sh f own 0 _ _ t);
-        emission = rw ok (own_table sh f own 1 _ _ m);
-        initial = rw ok (own_table sh f own 2 _ _ n);
-        end = rw ok (own_end sh f own _ _ x);
-      }
+pub ruleset laying_steps = (laying_transition, laying_emission, laying_initial, laying_end, done_enough)

@@ -39,12 +39,8 @@ count_3 sh h = go sh.ends h
     go true e = absurd (true≢false (sym e))
     go false e = refl
 
-count_4 : (sh : Shape) → not sh.ends ≡ false → count sh ≡ 4
-count_4 sh h = go sh.ends h
-  where
-    go : (b : Bool) → not b ≡ false → ◌≡◌ {A = ℕ} (cond b 4 3) 4
-    go true e = refl
-    go false e = absurd (true≢false e)
+count_4 : (sh : Shape) → sh.ends ≡ true → count sh ≡ 4
+count_4 sh h = rw h
 
 module _ (m : Tables) where
   abbrev sh : Shape
@@ -149,10 +145,10 @@ module _ (m : Tables) where
             three : z ≡ over 8 (flat 3 E) l
             three = entry_next 2 l y z two (at_entry 2 (has 2 (omega arith))) q''
 
-            pub contents_3 : not sh.ends ≡ true → z ≡ over 8 (contents_of m) l
-            contents_3 h = contents_done 3 l z (count_3 sh h) three
+            pub contents_3 : sh.ends ≡ false → z ≡ over 8 (contents_of m) l
+            contents_3 h = contents_done 3 l z (count_3 sh (ap not h)) three
 
-            module _ (h : not sh.ends ≡ false) where
+            module _ (h : sh.ends ≡ true) where
               fourth : 24 + 3 * 16 ≤ length l
               fourth = at_entry 3 (omega (arith, count_4 sh h))
 
@@ -184,10 +180,10 @@ module _ (m : Tables) where
               b_three : z ≡ over (offset sh 0) (flat 3 B) l
               b_three = body_next 2 o2 l y z e2 b_two (at_body 2 (has 2 (omega arith))) q''
 
-              pub bodies_3 : not sh.ends ≡ true → z ≡ over (offset sh 0) (bodies_of m) l
-              bodies_3 h = bodies_done 3 l z (count_3 sh h) b_three
+              pub bodies_3 : sh.ends ≡ false → z ≡ over (offset sh 0) (bodies_of m) l
+              bodies_3 h = bodies_done 3 l z (count_3 sh (ap not h)) b_three
 
-              module _ (h : not sh.ends ≡ false) (o3 : ℕ) (e3 : o3 ≡ offset sh 3) where
+              module _ (h : sh.ends ≡ true) (o3 : ℕ) (e3 : o3 ≡ offset sh 3) where
                 last : offset sh 4 ≤ length l
                 last = at_body 3 (omega (arith, count_4 sh h))
 
@@ -227,16 +223,9 @@ module _ (m : Tables) where
     unfolding model_file file_of layout contents_of bodies_of
     length_whole = length_parts
 
-    -- room for the first numbers, and lengths that stay
+    -- room for the first numbers
     pub first_room : 8 ≤ r
     first_room = omega (arith, room_0, offset_none sh)
-
-    pub first_kept : (l a : List ℕ) → r ≡ length l → a ≡ over 0 (first sh) l → length a ≡ r
-    first_kept l a rl pa = ap length pa ∙ length_over 0 (first sh) l (omega (arith, length_first sh, first_room)) ∙ sym rl
-
-    pub contents_kept : (l a : List ℕ) → r ≡ length l → a ≡ over 8 (contents_of m) l → length a ≡ r
-    contents_kept l a rl pa =
-        ap length pa ∙ length_over 8 (contents_of m) l (omega (arith, length_contents, room_0, offset_none sh)) ∙ sym rl
 
   -- an output as long
   pub same_room : (r k : ℕ) → Puttable m r → k ≡ r → Puttable m k
@@ -271,9 +260,6 @@ module _ (m : Tables) (o : List ℕ) where
       let a = p.accepted in
       record { in_range = a.in_range; roomy = p.roomy.0; sized = table_size m a; numbers = table_numbers m a }
 
-  -- ---- the two ways in which a writer ends
-  pub is_refused : (r : Answer) → is_done (write_check m o) ≡ false → r ≡ write_check m o → Written m o r o
-  is_refused r not-ok e = record { answer = rw not-ok e; file = rw not-ok }
-
+  -- a writer that is done
   pub is_written : (r : Answer) (e : List ℕ) → is_done (write_check m o) ≡ true → r ≡ done nought → e ≡ over 0 (model_file m) o → Written m o r e
   is_written r e ok d h = record { answer = rw ok d; file = rw ok h }

@@ -11,7 +11,7 @@ ghost use Rattle.answer.specs.Checks.{first_of};
 ghost use Rattle.model.specs.Lent.{tables_of};
 ghost use Rattle.checks.specs.Checks.{check_tables};
 ghost use Rattle.file_layout.specs.Checks.{read_tests, write_rooms};
-ghost use Rattle.model_file.specs.Call.{no_shape, outputs, Read, Written, length_of};
+ghost use Rattle.model_file.specs.Call.{outputs, Read, Written, length_of};
 
 use crate::pack::{put_bodies, put_contents, put_first};
 use crate::unpack::{lay_end, lay_table};
@@ -29,6 +29,7 @@ pub struct Reading {
 }
 
 // The bytes of a file of this shape; 0 for a shape that no model has.
+#[tactic(auto, using(file_layout::proofs::FileChecks::file_range), unfolding(crate::specs::Call::length_of))]
 pub fn file_length(shape: Shape) -> usize
     ensures { result ≡ length_of shape }
 {
@@ -39,17 +40,14 @@ pub fn file_length(shape: Shape) -> usize
 }
 
 // The shape of no model.
-fn no_shape() -> Shape
-    ensures { result ≡ no_shape }
-{
-    Shape {
-        states: 0,
-        symbols: 0,
-        ends: false,
-    }
-}
+const NO_SHAPE: Shape = Shape {
+    states: 0,
+    symbols: 0,
+    ends: false,
+};
 
 // All checks of a reader, by the lengths of the four tables that it is lent.
+#[tactic(auto, using(crate::proofs::ReadChecks::read_steps))]
 fn check_read(file: &[u8], transition: usize, emission: usize, initial: usize, end: usize) -> Answer
     ensures { result ≡ first_of (read_tests file.now transition emission initial end) }
 {
@@ -70,6 +68,7 @@ fn check_read(file: &[u8], transition: usize, emission: usize, initial: usize, e
 
 // Reads a model file into the four lent tables. The file is input 5, the tables are outputs 6 to 9. Without an end state in the file the
 // end table is filled with +0.0.
+#[tactic(auto, using(crate::proofs::ReadChecks::laying_steps))]
 pub fn read_model(
     file: &[u8],
     transition: &mut [f64],
@@ -93,7 +92,7 @@ pub fn read_model(
     if !is_done(answer) {
         return Reading {
             answer,
-            shape: no_shape(),
+            shape: NO_SHAPE,
         };
     }
     let shape = shape_of(file);
@@ -131,9 +130,8 @@ fn check_write(
     if !is_done(checked) {
         return checked;
     }
-    let needed = [offset(shape, count(shape))];
-    let lent = [file];
-    let checked = check_rooms(false, 5, &needed, &lent);
+    let needed = offset(shape, count(shape));
+    let checked = check_rooms(false, 5, &[needed], &[file]);
     if !is_done(checked) {
         return checked;
     }

@@ -1,6 +1,5 @@
 // From tables to a file's bytes, part by part. The caller shows that there is room and that no entry is NaN.
-ghost use Rattle.std.specs.Prelude.{◌≡◌, ◌+◌, ◌*◌, ◌<◌, ◌≤◌, not, T, length, is_nan, slice_index_or, to_bits};
-ghost use Rattle.std.specs.Float.{nan, binary64};
+ghost use Rattle.std.specs.Prelude.{◌≡◌, ◌+◌, ◌*◌, ◌<◌, ◌≤◌, length};
 ghost use Rattle.lists.specs.Lists.{over};
 ghost use Rattle.little_endian.specs.Bytes.{bytes, sum};
 ghost use Rattle.model.specs.Lent.{tables_of};
@@ -13,37 +12,27 @@ use file_layout::layout::{count, flag, offset};
 use little_endian::put;
 use model::Shape;
 
-// The bits of entry i of a table. The caller shows that it is a number.
-fn bits_at(table: &[f64], i: usize) -> u64
-    requires { (i < length table.now) × T (not (is_nan (slice_index_or table.now i nan))) }
-    ensures { result ≡ to_bits binary64 (slice_index_or table.now i nan) }
-{
-    f64::to_bits(table[i])
-}
-
 // The sum of a table's words, wrapping at 2^64.
+#[tactic(auto, using(crate::proofs::Putting::summed_table))]
 fn sum_of_table(table: &[f64]) -> u64
     requires { Numbers table.now }
     ensures { result ≡ sum (bits table.now) }
 {
     let mut total: u64 = 0;
-    let mut i = 0;
-    while i < table.len() {
-        total = std::num::wrapping_add_u64(total, bits_at(table, i));
-        i += 1;
+    for entry in table {
+        total = total.wrapping_add(entry.to_bits());
     }
     total
 }
 
 // Writes a table's words from byte `at` on.
+#[tactic(auto, using(crate::proofs::Putting::put_table))]
 fn put_words(file: &mut [u8], at: usize, table: &[f64])
     requires { (at + 8 * length table.now ≤ length file.old) × Numbers table.now }
     ensures { file.new ≡ over at (bytes (bits table.now)) file.old }
 {
-    let mut i = 0;
-    while i < table.len() {
-        put(file, at + 8 * i, 8, bits_at(table, i));
-        i += 1;
+    for (i, entry) in table.iter().enumerate() {
+        put(file, at + 8 * i, 8, entry.to_bits());
     }
 }
 
@@ -85,10 +74,9 @@ pub(crate) fn put_contents(
     put_entry(file, shape, 0, transition);
     put_entry(file, shape, 1, emission);
     put_entry(file, shape, 2, initial);
-    if !shape.ends {
-        return;
+    if shape.ends {
+        put_entry(file, shape, 3, end);
     }
-    put_entry(file, shape, 3, end);
 }
 
 // Writes the bodies, behind the contents.
@@ -108,8 +96,7 @@ pub(crate) fn put_bodies(
     put_words(file, offset(shape, 0), transition);
     put_words(file, offset(shape, 1), emission);
     put_words(file, offset(shape, 2), initial);
-    if !shape.ends {
-        return;
+    if shape.ends {
+        put_words(file, offset(shape, 3), end);
     }
-    put_words(file, offset(shape, 3), end);
 }

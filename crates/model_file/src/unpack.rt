@@ -1,6 +1,5 @@
 // From a file's words to tables: each is laid over the front of a lent one. The caller shows that the words are there and good.
-ghost use Rattle.std.specs.Prelude.{◌≡◌, ◌*◌, ◌≤◌, length, replicate};
-ghost use Rattle.floats.specs.Float.{nought};
+ghost use Rattle.std.specs.Prelude.{◌≡◌, ◌*◌, length};
 ghost use Rattle.lists.specs.Lists.{part, over};
 ghost use Rattle.little_endian.specs.Bytes.{words};
 ghost use Rattle.file_layout.specs.Reading.{body_at, floats, end_at};
@@ -11,30 +10,18 @@ use little_endian::word_at;
 use model::Shape;
 
 // Lays n words from byte `at` on over the front of a table, as floats.
+#[tactic(auto, using(crate::proofs::LaidWords::laid_words))]
 fn lay_words(file: &[u8], at: usize, n: usize, table: &mut [f64])
     requires { Layable file.now at n table.old }
     ensures { table.new ≡ over 0 (floats (words n (part at (8 * n) file.now))) table.old }
 {
-    let mut i = 0;
-    while i < n {
+    for i in 0..n {
         table[i] = f64::from_bits(word_at(file, at + 8 * i));
-        i += 1;
-    }
-}
-
-// Lays n times +0.0 over the front of a table.
-fn lay_zeros(n: usize, table: &mut [f64])
-    requires { n ≤ length table.old }
-    ensures { table.new ≡ over 0 (replicate n nought) table.old }
-{
-    let mut i = 0;
-    while i < n {
-        table[i] = 0.0;
-        i += 1;
     }
 }
 
 // Lays table i of the file over the front of a lent one.
+#[tactic(auto, using(crate::proofs::LaidWords::laid_table), unfolding(file_layout::specs::Reading::body_at))]
 pub(crate) fn lay_table(shape: Shape, file: &[u8], i: usize, table: &mut [f64])
     requires { Laying shape file.now i (length table.old) }
     ensures { table.new ≡ over 0 (floats (body_at shape file.now i)) table.old }
@@ -43,13 +30,14 @@ pub(crate) fn lay_table(shape: Shape, file: &[u8], i: usize, table: &mut [f64])
 }
 
 // Lays the end table: that of the file, or +0.0 for each state.
+#[tactic(auto, unfolding(lists::specs::Lists::over, file_layout::specs::Reading::end_at))]
 pub(crate) fn lay_end(shape: Shape, file: &[u8], table: &mut [f64])
     requires { LayingEnd shape file.now (length table.old) }
     ensures { table.new ≡ over 0 (end_at shape file.now) table.old }
 {
     if shape.ends {
         lay_table(shape, file, 3, table);
-        return;
+    } else {
+        table[..shape.states].fill(0.0);
     }
-    lay_zeros(shape.states, table);
 }

@@ -1,5 +1,5 @@
 -- `model_file::check_write` meets its contract: the tests in their order, each made where those before it found no fault.
-use Rattle.std.proofs.Common.{Bool, length, ◌≡◌, true, false, [], ◌++◌, refl, arith}
+use Rattle.std.proofs.Common.{Bool, length, ◌≡◌, true, false, [], ◌++◌, arith}
 use Rattle.answer.specs.Checks.{first_of}
 use Rattle.answer.proofs.Checks.{Clear}
 use Rattle.model.specs.Lent.{Tables, tables_of}
@@ -24,27 +24,24 @@ returns-then-not-is_done c =
     sizes_answer _ (tables_of a.shape a.transition.now a.emission.now a.initial.now a.end.now) _ _ c.is_done.ensures c.check_sizes-checked.ensures
     c.if-not-is_done.true
 
-pub offset-requires : goal.offset-requires
-offset-requires c =
+pub offset-needed-requires : goal.offset-needed-requires
+offset-needed-requires c =
     let a = c.args in
     let m = tables_of a.shape a.transition.now a.emission.now a.initial.now a.end.now in (
       sizes_in_range [] m (passed m _ _ c.is_done.ensures c.check_sizes-checked.ensures c.if-not-is_done.false),
       omega (arith, c.count.ensures, count_high a.shape),
     )
 
-pub check_rooms-checked-requires : goal.check_rooms-checked-requires
-check_rooms-checked-requires c = record { paired = refl; few = omega arith }
-
 pub returns-then-not-is_done-2 : goal.returns-then-not-is_done-2
 returns-then-not-is_done-2 c =
     let a = c.args in
     let m = tables_of a.shape a.transition.now a.emission.now a.initial.now a.end.now in
     outputs_answer _ m _ _ c.is_done-2.ensures (passed m _ _ c.is_done.ensures c.check_sizes-checked.ensures c.if-not-is_done.false)
-    (needs_room _ _ _ _ _ c.count.ensures c.offset.ensures c.check_rooms-checked.ensures) c.if-not-is_done-2.true
+    (needs_room _ _ _ _ _ c.count.ensures c.offset-needed.ensures c.check_rooms-checked.ensures) c.if-not-is_done-2.true
 
 pub returns : goal.returns
 returns c =
     let a = c.args in
     let m = tables_of a.shape a.transition.now a.emission.now a.initial.now a.end.now in
     entries_answer _ m _ _ c.is_done-2.ensures (passed m _ _ c.is_done.ensures c.check_sizes-checked.ensures c.if-not-is_done.false)
-    (needs_room _ _ _ _ _ c.count.ensures c.offset.ensures c.check_rooms-checked.ensures) c.if-not-is_done-2.false _ c.check_entries.ensures
+    (needs_room _ _ _ _ _ c.count.ensures c.offset-needed.ensures c.check_rooms-checked.ensures) c.if-not-is_done-2.false _ c.check_entries.ensures

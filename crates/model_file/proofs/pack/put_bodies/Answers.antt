@@ -16,19 +16,20 @@ put_words-requires-3 c = (
   c.requires.numbers 2,
 )
 
-pub returns-then-not-shape : goal.returns-then-not-shape
-returns-then-not-shape c =
-    bodies_3 _ _ c.requires c.args.file.now refl _ c.offset.ensures _ c.put_words.ensures _ c.offset-2.ensures _
-    c.put_words-2.ensures _ c.offset-3.ensures _ c.put_words-3.ensures c.if-not-shape.true
-
-pub put_words-requires-4 : goal.put_words-requires-4
-put_words-requires-4 c = (
+pub put_words-requires-then-shape : goal.put_words-requires-then-shape
+put_words-requires-then-shape c = (
   body_room_3 _ _ c.requires c.args.file.now refl _ c.offset.ensures _ c.put_words.ensures _ c.offset-2.ensures _
-      c.put_words-2.ensures _ c.offset-3.ensures _ c.put_words-3.ensures c.if-not-shape.false _ c.offset-4.ensures,
+      c.put_words-2.ensures _ c.offset-3.ensures _ c.put_words-3.ensures c.if-shape.true _ c.offset-then-shape.ensures,
   c.requires.numbers 3,
 )
 
-pub returns : goal.returns
-returns c =
+pub returns-then-shape : goal.returns-then-shape
+returns-then-shape c =
     bodies_4 _ _ c.requires c.args.file.now refl _ c.offset.ensures _ c.put_words.ensures _ c.offset-2.ensures _
-    c.put_words-2.ensures _ c.offset-3.ensures _ c.put_words-3.ensures c.if-not-shape.false _ c.offset-4.ensures _ c.put_words-4.ensures
+    c.put_words-2.ensures _ c.offset-3.ensures _ c.put_words-3.ensures c.if-shape.true _ c.offset-then-shape.ensures _
+    c.put_words-then-shape.ensures
+
+pub returns-else-shape : goal.returns-else-shape
+returns-else-shape c =
+    bodies_3 _ _ c.requires c.args.file.now refl _ c.offset.ensures _ c.put_words.ensures _ c.offset-2.ensures _
+    c.put_words-2.ensures _ c.offset-3.ensures _ c.put_words-3.ensures c.if-shape.false

@@ -14,12 +14,12 @@ put_entry-requires-2 c = (c.requires.in_range, omega arith, entry_room_1 _ _ c.r
 pub put_entry-requires-3 : goal.put_entry-requires-3
 put_entry-requires-3 c = (c.requires.in_range, omega arith, entry_room_2 _ _ c.requires c.args.file.now refl _ c.put_entry.ensures _ c.put_entry-2.ensures, c.requires.numbers 2)
 
-pub returns-then-not-shape : goal.returns-then-not-shape
-returns-then-not-shape c = contents_3 _ _ c.requires c.args.file.now refl _ c.put_entry.ensures _ c.put_entry-2.ensures _ c.put_entry-3.ensures c.if-not-shape.true
+pub put_entry-requires-then-shape : goal.put_entry-requires-then-shape
+put_entry-requires-then-shape c =
+    (c.requires.in_range, omega arith, entry_room_3 _ _ c.requires c.args.file.now refl _ c.put_entry.ensures _ c.put_entry-2.ensures _ c.put_entry-3.ensures c.if-shape.true, c.requires.numbers 3)
 
-pub put_entry-requires-4 : goal.put_entry-requires-4
-put_entry-requires-4 c =
-    (c.requires.in_range, omega arith, entry_room_3 _ _ c.requires c.args.file.now refl _ c.put_entry.ensures _ c.put_entry-2.ensures _ c.put_entry-3.ensures c.if-not-shape.false, c.requires.numbers 3)
+pub returns-then-shape : goal.returns-then-shape
+returns-then-shape c = contents_4 _ _ c.requires c.args.file.now refl _ c.put_entry.ensures _ c.put_entry-2.ensures _ c.put_entry-3.ensures c.if-shape.true _ c.put_entry-then-shape.ensures
 
-pub returns : goal.returns
-returns c = contents_4 _ _ c.requires c.args.file.now refl _ c.put_entry.ensures _ c.put_entry-2.ensures _ c.put_entry-3.ensures c.if-not-shape.false _ c.put_entry-4.ensures
+pub returns-else-shape : goal.returns-else-shape
+returns-else-shape c = contents_3 _ _ c.requires c.args.file.now refl _ c.put_entry.ensures _ c.put_entry-2.ensures _ c.put_entry-3.ensures c.if-shape.false
