@@ -21,7 +21,7 @@ unfoldable pub some_other : (ℕ → Bool) → ℕ → Bool
 some_other other zero = false
 some_other other (suc n) = other n || some_other other n
 
--- place i of an output is another than the list's, where `differs` tells what a place holds from a word; past the output's end stands `blank`
+-- place i of an output is another than the list's, by what tells a value from a word; past the output's end stands `blank`
 abbrev pub other_place : {A : Type 0} → (A → ℕ → Bool) → A → List A → List ℕ → ℕ → Bool
 other_place differs blank output list i = differs (get_or output i blank) (word_at list i)
 

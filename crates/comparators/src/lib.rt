@@ -18,8 +18,10 @@ pub const MOST: usize = 1024;
 
 // What a place of an output holds, and when it is another than a word says.
 pub trait Place: FromWord {
+    // What is read past the end of an output.
     ghost blank: { Self };
 
+    // Whether the value is another than the word says.
     ghost differs: { Self → ℕ → Bool };
 
     fn is_other(self, word: u64) -> bool
@@ -48,7 +50,7 @@ impl Place for u8 {
 }
 
 // An output before the call: every byte of it is 0xa5.
-pub fn untouched<P: Place>() -> [P; MOST]
+pub fn untouched<P: FromWord>() -> [P; MOST]
     ensures { (1024 ≡ length result) × (result ≡ replicate 1024 (P.word_gives 0xa5a5_a5a5_a5a5_a5a5)) }
 {
     [P::from_word(0xa5a5_a5a5_a5a5_a5a5); MOST]
@@ -85,7 +87,7 @@ pub fn answer_differs(case: &[u64], a: Answer) -> bool
 {
     a.refusal.number().is_other(word_at(case, 1))
         || a.table.is_other(word_at(case, 2))
-        || (a.place as u64 != word_at(case, 3))
+        || a.place as u64 != word_at(case, 3)
         || a.value.is_other(word_at(case, 4))
 }
 
@@ -94,10 +96,10 @@ pub fn shape_differs(case: &[u64], k: usize, shape: Shape) -> bool
     ensures { result ≡ shape_differs (list_of case.now k) shape }
 {
     let list = words(case, k);
-    (shape.states as u64 != word_at(list, 0))
-        || (shape.symbols as u64 != word_at(list, 1))
-        || (u64::from(shape.ends) != word_at(list, 2))
-        || (list.len() != 3)
+    shape.states as u64 != word_at(list, 0)
+        || shape.symbols as u64 != word_at(list, 1)
+        || u64::from(shape.ends) != word_at(list, 2)
+        || list.len() != 3
 }
 
 // Whether a state and the value of its path are others than the k-th list.
@@ -105,5 +107,5 @@ pub fn choice_differs(case: &[u64], k: usize, state: usize, value: f64) -> bool
     ensures { result ≡ choice_differs (list_of case.now k) state value }
 {
     let list = words(case, k);
-    (state as u64 != word_at(list, 0)) || value.is_other(word_at(list, 1)) || (list.len() != 2)
+    state as u64 != word_at(list, 0) || value.is_other(word_at(list, 1)) || list.len() != 2
 }

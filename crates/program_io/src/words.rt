@@ -1,4 +1,4 @@
-// Words of 8 bytes, little-endian, from standard input, and the f64 that they are the bits of.
+// Words of 8 bytes, little-endian, from standard input, and the numbers, samples and bytes that they say.
 ghost use Rattle.std.specs.Prelude.{◌≡◌, ℕ, ◌%◌, ◌≤◌, IfOk, OnErr, length};
 ghost use Rattle.std.specs.Float.Ieee.{of_bits};
 ghost use Rattle.std.specs.Float.{binary64};

@@ -5,6 +5,7 @@ use comparators::{answer_differs, changed, lent, untouched};
 use frozen_list::calls::Call;
 use frozen_list::cases::{ends_with, table, unpack, words};
 use kernels::{exp, ln};
+use likelihood::{backward, forward};
 use probs::{LogProb, PHREDProb, Prob};
 use program_io::words::{FromWord, word_at};
 
@@ -13,13 +14,11 @@ fn alone_differs(case: &[u64], a: Answer) -> bool {
     answer_differs(case, a) | !ends_with(case, 0)
 }
 
-// A case whose one output is numbers, its k-th list.
-pub fn output_differs<F: FnOnce(&mut [f64]) -> Answer>(case: &[u64], k: usize, call: F) -> bool
-    requires { F.IsAlwaysCallable call }
-{
-    let mut output = untouched();
-    let a = call(lent(&mut output, case, k));
-    answer_differs(case, a) | changed(&output, case, k) | !ends_with(case, k)
+// A case of `ln_cumsum_exp`: list 1 is the output.
+fn sums_differ(case: &[u64], arguments: &[f64]) -> bool {
+    let mut sums = untouched();
+    let a = LogProb::ln_cumsum_exp(arguments, lent(&mut sums, case, 1));
+    answer_differs(case, a) | changed(&sums, case, 1) | !ends_with(case, 1)
 }
 
 // A case of any call. List 0 of a leaf is its arguments.
@@ -29,8 +28,8 @@ fn call_differs(case: &[u64], tables: &[f64], samples: &[u16], call: Call) -> bo
     let y = f64::from_word(word_at(words(case, 0), 1));
     match call {
         Call::Viterbi => walks::viterbi_differs(case, tables, samples),
-        Call::Forward => walks::forward_differs(case, tables, samples),
-        Call::Backward => walks::backward_differs(case, tables, samples),
+        Call::Forward => walks::walk_differs(case, tables, samples, forward),
+        Call::Backward => walks::walk_differs(case, tables, samples, backward),
         Call::BaumWelch => walks::baum_welch_differs(case, tables, samples),
         Call::Exp => alone_differs(case, exp(x)),
         Call::Ln => alone_differs(case, ln(x)),
@@ -38,11 +37,7 @@ fn call_differs(case: &[u64], tables: &[f64], samples: &[u16], call: Call) -> bo
         Call::LnSumExp => alone_differs(case, LogProb::ln_sum_exp(arguments)),
         Call::LnAddExp => alone_differs(case, LogProb(x).ln_add_exp(LogProb(y))),
         Call::LnSubExp => alone_differs(case, LogProb(x).ln_sub_exp(LogProb(y))),
-        Call::LnCumsumExp => output_differs(
-            case,
-            1,
-            |sums| LogProb::ln_cumsum_exp(arguments, sums),
-        ),
+        Call::LnCumsumExp => sums_differ(case, arguments),
         Call::CapNumericalOvershoot => alone_differs(case, LogProb(x).cap_numerical_overshoot(y)),
         Call::IsValid => alone_differs(case, done(if LogProb(x).is_valid() { 1.0 } else { 0.0 })),
         Call::ProbChecked => alone_differs(case, Prob::checked(x)),

@@ -1,10 +1,9 @@
 // The cases of the calls on a model: lists 0 to 5 are shape, transition, emission, initial, end and samples, the outputs come after them.
 // `rival` has its index in list 6, and then, before its outputs, what it gives beside its answer.
-use crate::cases::output_differs;
+use answer::Answer;
 use baum_welch::baum_welch;
 use comparators::{answer_differs, changed, choice_differs, lent, untouched};
 use frozen_list::cases::{ends_with, table, unpack, words};
-use likelihood::{backward, forward};
 use model::{Lent, Shape, Tables};
 use program_io::words::word_at;
 use rival::rival;
@@ -49,16 +48,18 @@ pub fn viterbi_differs(case: &[u64], tables: &[f64], samples: &[u16]) -> bool {
         | !ends_with(case, 8)
 }
 
-// A case of `forward`: the output is values.
-pub fn forward_differs(case: &[u64], tables: &[f64], samples: &[u16]) -> bool {
-    let lent = lent_of(case, tables, samples);
-    output_differs(case, 6, |values| forward(&lent, values))
-}
-
-// A case of `backward`: the output is values.
-pub fn backward_differs(case: &[u64], tables: &[f64], samples: &[u16]) -> bool {
-    let lent = lent_of(case, tables, samples);
-    output_differs(case, 6, |values| backward(&lent, values))
+// A case of `forward` or of `backward`: the output is values.
+pub fn walk_differs<F>(case: &[u64], tables: &[f64], samples: &[u16], walk: F) -> bool
+where
+    F: FnOnce(&Lent, &mut [f64]) -> Answer,
+    requires { F.IsAlwaysCallable walk }
+{
+    let mut values = untouched();
+    let a = walk(
+        &lent_of(case, tables, samples),
+        lent(&mut values, case, 6),
+    );
+    answer_differs(case, a) | changed(&values, case, 6) | !ends_with(case, 6)
 }
 
 // A case of `baum_welch`: the outputs are the four new tables, alpha and beta.
