@@ -11,7 +11,7 @@ use Rattle.floats.specs.Float.{minus_infinity}
 use Rattle.answer.specs.declared.Answer.{Answer}
 use Rattle.answer.specs.Answer.{number_of, is_done, done}
 use Rattle.answer.specs.Checks.{Tests, first_of, first_fault}
-use Rattle.std.specs.Prelude.{Result, Ok, Err}
+use Rattle.std.specs.Prelude.{Result, Ok, Err, is_err}
 
 -- every test of the list gives an answer whose number passes the test
 abbrev pub Gives : (ℕ → Bool) → Tests → Type 0
@@ -237,3 +237,12 @@ as_fault ts x e d = go (first_fault ts) refl
     go : (r : Result Unit Answer) → first_fault ts ≡ r → Err x ≡ r
     go (Ok u) h = absurd (true≢false (sym (passes_too ts u h) ∙ ap is_done (sym e) ∙ d))
     go (Err y) h = ap Err (e ∙ sym (found ts y h))
+
+-- the same by whether the code's check is a refusal
+pub err_is_not_done : (ts : Tests) → Refuses ts → (r : Result Unit Answer) → r ≡ first_fault ts → is_err r ≡ true → is_done (first_of ts) ≡ false
+err_is_not_done ts k (Ok u) e h = absurd (true≢false (sym h))
+err_is_not_done ts k (Err x) e h = refuses_too ts k x (sym e)
+
+pub ok_is_done : (ts : Tests) → (r : Result Unit Answer) → r ≡ first_fault ts → is_err r ≡ false → is_done (first_of ts) ≡ true
+ok_is_done ts (Ok u) e h = passes_too ts u (sym e)
+ok_is_done ts (Err x) e h = absurd (true≢false h)

@@ -1,12 +1,12 @@
 -- The checks of a file in their order, by what the code found of the shape that it read.
 use Prim.Native.Nat.{ℕ, ◌≤◌, ◌<◌}
 use mathlib.Core.Path.{◌≡◌, sym, ap, ◌∙◌, subst}
-use mathlib.Core.Bool.{Bool, true, false}
+use mathlib.Core.Bool.{Bool, true, false, true≢false}
 use mathlib.Core.List.{List, append_assoc}
 use lib.ListN.{length}
 use borrow.Author.Tests.{lt-ltb, le-ltb}
 use Rattle.answer.specs.Answer.{is_done, refuse}
-use Rattle.std.specs.Prelude.{Result, Ok, Err}
+use Rattle.std.specs.Prelude.{Result, Ok, Err, is_err}
 use Rattle.answer.specs.Checks.{first_fault}
 use Rattle.answer.proofs.Checks.{all_clear, as_fault, faulty, faultless, fault_stops, fault_goes_on, passed}
 use Rattle.model.specs.Accepted.{InRange}
@@ -59,3 +59,8 @@ module _ (f : List ℕ) (r : Answer) where
 -- 1 and 2 are passed
 pub file_range : (sh : Shape) {u : Unit} → Ok u ≡ first_fault (shape_tests sh) → InRange sh
 file_range sh {u} e = shape_in_range sh (passed (shape_tests sh) u (sym e))
+
+-- the same by whether the code's check is a refusal
+pub range_by : (sh : Shape) (r : Result Unit Answer) → r ≡ first_fault (shape_tests sh) → is_err r ≡ false → InRange sh
+range_by sh (Ok u) e h = file_range sh e
+range_by sh (Err x) e h = absurd (true≢false h)

@@ -1,9 +1,12 @@
 -- The checks of a reader in their order, and what is known once none finds fault.
-use Rattle.std.proofs.Common.{◌≡◌, ℕ, ◌*◌, ◌<◌, ◌≤◌, Bool, true, false, not, List, [], ◌∷◌, ◌++◌, length, ap, ◌∙◌, arith, ltb-false}
-use Rattle.lists.specs.Lists.{first_bad}
-use Rattle.answer.specs.Answer.{is_done}
-use Rattle.answer.specs.Checks.{Tests, first_of}
-use Rattle.answer.proofs.Checks.{Clear, Refuses, refuse_both, clear, clear_left, clear_right, goes_on, passed_by, refused_by}
+use Rattle.std.proofs.Common.{sym, ◌≡◌, ℕ, ◌*◌, ◌<◌, ◌≤◌, Bool, true, false, not, List, [], ◌∷◌, ◌++◌, length, ap, ◌∙◌, arith, ltb-false}
+use lib.Ieee.{Float}
+use Rattle.std.specs.Prelude.{Result, Ok, Err}
+use Rattle.floats.specs.Float.{nought}
+use Rattle.lists.specs.Lists.{first_bad, over}
+use Rattle.answer.specs.Answer.{done, is_done}
+use Rattle.answer.specs.Checks.{Tests, first_of, first_fault}
+use Rattle.answer.proofs.Checks.{Clear, Refuses, refuse_both, clear, clear_left, clear_right, passed, found, fault_stops, fault_goes_on, refuses_too, passes_too}
 use Rattle.checks.specs.declared.Room.{Room}
 use Rattle.checks.specs.Rooms.{room, Roomy}
 use Rattle.checks.specs.Checks.{room_tests}
@@ -12,11 +15,12 @@ use Rattle.checks.proofs.Done.{is_roomy}
 use Rattle.model.specs.Good.{good_bits}
 use Rattle.file_layout.specs.Checks.{file_tests, layout_tests, read_rooms, read_tests, sum_tests, word_test, word_tests}
 use Rattle.file_layout.specs.Layout.{count, size}
-use Rattle.file_layout.specs.Reading.{body_of, shape_of}
+use Rattle.file_layout.specs.Reading.{body_at, body_of, end_at, end_of, floats, shape_of}
+use Rattle.model_file.specs.Call.{Outputs, read_check, Read}
 use Rattle.model_file.specs.inner.Laying.{Laying, LayingEnd}
 use Rattle.file_layout.specs.inner.Whole.{Whole}
 use Rattle.file_layout.proofs.Accepting.{file_refuses, laid, tab_clear, tab_refuses}
-use Rattle.file_layout.proofs.Bounds.{count_low, square_small, product_small}
+use Rattle.file_layout.proofs.Bounds.{count_low}
 use Rattle.file_layout.proofs.Fits.{fits_length}
 use Rattle.file_layout.proofs.Whole.{length_pattern}
 use Rattle.file_layout.proofs.Within.{length_body}
@@ -33,6 +37,9 @@ clear_whole f sh own c =
       long = rw own (fits_length _ f l.fits ∙ length_pattern (shape_of f));
     }
 
+pub passed_file : (f : List ℕ) {u : Unit} → Ok u ≡ first_fault (file_tests f) → Clear (file_tests f)
+passed_file f {u} e = passed (file_tests f) u (sym e)
+
 pub clear_enough : (f : List ℕ) → Clear (file_tests f) → 8 ≤ length f
 clear_enough f c = (laid f (clear_left (layout_tests f) (sum_tests f) c)).enough
 
@@ -47,35 +54,33 @@ module _ (f : List ℕ) (a b c d : ℕ) where
   abbrev rooms : Tests
   rooms = room_tests false 6 needed
 
-  -- the code's answers
-  module _ (t : Bool) (r : Answer) (is : t ≡ is_done r) where
-    pub read_file : r ≡ first_of (file_tests f) → t ≡ false → r ≡ first_of (read_tests f a b c d)
+  -- the code's check
+  pub read_file : {x : Answer} → Err x ≡ first_fault (file_tests f) → Err x ≡ first_fault (read_tests f a b c d)
+  unfolding read_tests
+  read_file {x} e = fault_stops (file_tests f) (rooms ++ word_tests f) x (sym e)
+
+  -- what the code needs of each table, worked out of the shape that it read
+  module _ (sh : Shape) (own : sh ≡ shape_of f) where
+    abbrev worked_out : Result Unit Answer
+    worked_out =
+        first_fault (room_tests false 6 (room (sh.states * sh.states) a ∷ room (sh.states * sh.symbols) b ∷ room sh.states c ∷ room sh.states d ∷ []))
+
+    own_rooms : worked_out ≡ first_fault rooms
+    unfolding size
+    own_rooms =
+        ap (λ (s : Shape). first_fault (room_tests false 6
+        (room (s.states * s.states) a ∷ room (s.states * s.symbols) b ∷ room s.states c ∷ room s.states d ∷ []))) own
+
+    pub read_rooms_lem : {u : Unit} {x : Answer} → Ok u ≡ first_fault (file_tests f) → Err x ≡ worked_out → Err x ≡ first_fault (read_tests f a b c d)
     unfolding read_tests
-    read_file e h = refused_by t r (file_tests f) is e (ap not h) _
+    read_rooms_lem {u} {x} e g =
+        fault_goes_on (file_tests f) (rooms ++ word_tests f) u (Err x) (sym e) (fault_stops rooms (word_tests f) x (sym (g ∙ own_rooms)))
 
-    pub passed_file : r ≡ first_of (file_tests f) → t ≡ true → Clear (file_tests f)
-    passed_file e h = passed_by t r (file_tests f) is e (ap not h) (file_refuses f)
-
-    -- what the code needs of each table, worked out of the shape that it read
-    module _ (sh : Shape) (own : sh ≡ shape_of f)
-        (e : r ≡ first_of (room_tests false 6
-        (room (sh.states * sh.states) a ∷ room (sh.states * sh.symbols) b ∷ room sh.states c ∷ room sh.states d ∷ []))) where
-      own_rooms : r ≡ first_of rooms
-      unfolding size
-      own_rooms =
-          e
-          ∙ ap (λ (s : Shape). first_of (room_tests false 6
-          (room (s.states * s.states) a ∷ room (s.states * s.symbols) b ∷ room s.states c ∷ room s.states d ∷ []))) own
-
-      pub read_rooms_lem : Clear (file_tests f) → t ≡ false → r ≡ first_of (read_tests f a b c d)
-      unfolding read_tests
-      read_rooms_lem k h = goes_on (file_tests f) (rooms ++ word_tests f) r (refused_by t r rooms is own_rooms (ap not h) (word_tests f)) k
-
-      pub read_words : Clear (file_tests f) → t ≡ true → (q : Answer) → q ≡ first_of (word_tests f) → q ≡ first_of (read_tests f a b c d)
-      unfolding read_tests
-      read_words k h q w =
-          goes_on (file_tests f) (rooms ++ word_tests f) q
-          (goes_on rooms (word_tests f) q w (passed_by t r rooms is own_rooms (ap not h) (rooms_refuse false 6 needed))) k
+    pub read_words : {u v : Unit} {q : Result Unit Answer} → Ok u ≡ first_fault (file_tests f) → Ok v ≡ worked_out
+        → q ≡ first_fault (word_tests f) → q ≡ first_fault (read_tests f a b c d)
+    unfolding read_tests
+    read_words {u} {v} {q} e g w =
+        fault_goes_on (file_tests f) (rooms ++ word_tests f) u q (sym e) (fault_goes_on rooms (word_tests f) v q (sym (g ∙ own_rooms)) w)
 
   -- ---- a reader that is done
   pub record Readable : Type 0 where
@@ -83,12 +88,26 @@ module _ (f : List ℕ) (a b c d : ℕ) where
     pub roomy : Roomy needed
     pub word : Clear (word_tests f)
 
+  read_refuses : Refuses (read_tests f a b c d)
+  unfolding read_tests
+  read_refuses =
+      refuse_both (file_tests f) (rooms ++ word_tests f) (file_refuses f)
+      (refuse_both rooms (word_tests f) (rooms_refuse false 6 needed) words_refuse)
+
+  -- what the code's check says of the list's answer
+  pub read_passed : {u : Unit} → Ok u ≡ first_fault (read_tests f a b c d) → is_done (first_of (read_tests f a b c d)) ≡ true
+  read_passed {u} e = passes_too (read_tests f a b c d) u (sym e)
+
+  pub read_refused : {x : Answer} → Err x ≡ first_fault (read_tests f a b c d) → is_done (first_of (read_tests f a b c d)) ≡ false
+  read_refused {x} e = refuses_too (read_tests f a b c d) read_refuses x (sym e)
+
+  pub read_refusal : {x : Answer} → Err x ≡ first_fault (read_tests f a b c d) → x ≡ first_of (read_tests f a b c d)
+  read_refusal {x} e = found (read_tests f a b c d) x (sym e)
+
   pub read_done : is_done (first_of (read_tests f a b c d)) ≡ true → Readable
   unfolding read_tests
   read_done h =
-      let refuses = refuse_both (file_tests f) (rooms ++ word_tests f) (file_refuses f)
-      (refuse_both rooms (word_tests f) (rooms_refuse false 6 needed) words_refuse) in
-      let all = clear (file_tests f ++ (rooms ++ word_tests f)) refuses h in
+      let all = clear (file_tests f ++ (rooms ++ word_tests f)) read_refuses h in
       let rest = clear_right (file_tests f) (rooms ++ word_tests f) all in
       record {
         file = clear_left (file_tests f) (rooms ++ word_tests f) all;
@@ -144,6 +163,26 @@ module _ (f : List ℕ) (a b c d : ℕ) where
     laying_end = laying_end_lem sh own readable d readable.roomy.1.1.1.0
 
 -- for `check_read`, and for `read_model`
-pub ruleset read_steps = (clear_whole, clear_enough, read_file, passed_file, read_rooms_lem, read_words, square_small, product_small)
+pub ruleset laying_steps = (laying_transition, laying_emission, laying_initial, laying_end, done_enough, read_passed, read_refused, read_refusal)
 
-pub ruleset laying_steps = (laying_transition, laying_emission, laying_initial, laying_end, done_enough)
+-- ---- what the lent tables hold at the end: a table of the file, by the shape that was read
+own_table : (sh : Shape) (f : List ℕ) → sh ≡ shape_of f → (i : ℕ) (l cur : List Float) → cur ≡ over 0 (floats (body_at sh f i)) l
+    → cur ≡ over 0 (floats (body_of f i)) l
+own_table sh f own i l cur e = e ∙ ap (λ (s : Shape). over 0 (floats (body_at s f i)) l) own
+
+own_end : (sh : Shape) (f : List ℕ) → sh ≡ shape_of f → (l cur : List Float) → cur ≡ over 0 (end_at sh f) l → cur ≡ over 0 (end_of f) l
+own_end sh f own l cur e = e ∙ ap (λ (s : Shape). over 0 (end_at s f) l) own
+
+pub is_read : (f : List ℕ) (o : Outputs) (r : Answer) (sh : Shape) (e : Outputs) → is_done (read_check f o) ≡ true → r ≡ done nought
+    → sh ≡ shape_of f → e.transition ≡ over 0 (floats (body_at sh f 0)) o.transition → e.emission ≡ over 0 (floats (body_at sh f 1)) o.emission
+    → e.initial ≡ over 0 (floats (body_at sh f 2)) o.initial → e.end ≡ over 0 (end_at sh f) o.end
+    → Read f o (record { answer = r; shape = sh }) e
+is_read f o r sh e ok d own t m n x =
+    record {
+      answer = rw ok d;
+      shape = rw ok own;
+      transition = rw ok (own_table sh f own 0 _ _ t);
+      emission = rw ok (own_table sh f own 1 _ _ m);
+      initial = rw ok (own_table sh f own 2 _ _ n);
+      end = rw ok (own_end sh f own _ _ x);
+    }

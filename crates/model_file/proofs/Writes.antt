@@ -9,7 +9,8 @@ use Rattle.lists.proofs.Rows.{length_flat}
 use Rattle.little_endian.specs.Bytes.{bytes}
 use Rattle.little_endian.proofs.Bytes.{length_bytes, length_little}
 use Rattle.answer.specs.Answer.{done, is_done}
-use Rattle.answer.specs.Checks.{first_of}
+use Rattle.std.specs.Prelude.{Result, Err}
+use Rattle.answer.specs.Checks.{first_fault}
 use Rattle.answer.specs.declared.Answer.{Answer}
 use Rattle.model.specs.declared.Shape.{Shape}
 use Rattle.model.specs.Lent.{Tables}
@@ -17,7 +18,8 @@ use Rattle.model.specs.Good.{good, good_end}
 use Rattle.model.specs.Accepted.{Every, AcceptedTables}
 use Rattle.model.proofs.Entries.{good_number, end_number}
 use Rattle.checks.specs.Rooms.{room}
-use Rattle.checks.specs.Checks.{room_tests}
+use Rattle.checks.specs.Checks.{room_tests, tables_fault}
+use Rattle.checks.proofs.Unsampled as Unsampled
 use Rattle.checks.proofs.Unsampled.{tables_let_through}
 use Rattle.file_layout.specs.Layout.{count, size, offset, file_length, first, layout, file_of, bits, table_of, model_file}
 use Rattle.file_layout.specs.Checks.{write_rooms}
@@ -249,9 +251,9 @@ table_numbers m a (suc (suc zero)) = numbers good good_number m.initial a.initia
 table_numbers m a (suc (suc (suc i))) = numbers (good_end m.shape.ends) (end_number m.shape.ends) m.end a.end_good
 
 -- the room that the code worked out
-pub needs_room : (sh : Shape) (n o r : ℕ) (a : Answer) → n ≡ count sh → o ≡ offset sh n → a ≡ first_of (room_tests false 5 (room o r ∷ []))
-    → a ≡ first_of (room_tests false 5 (write_rooms sh r))
-needs_room sh n o r a en eo e = e ∙ ap (λ (k : ℕ). first_of (room_tests false 5 (room k r ∷ []))) (eo ∙ ap (offset sh) en)
+pub needs_room : (sh : Shape) (n o r : ℕ) (q : Result Unit Answer) → n ≡ count sh → o ≡ offset sh n
+    → q ≡ first_fault (room_tests false 5 (room o r ∷ [])) → q ≡ first_fault (room_tests false 5 (write_rooms sh r))
+needs_room sh n o r q en eo e = e ∙ ap (λ (k : ℕ). first_fault (room_tests false 5 (room k r ∷ []))) (eo ∙ ap (offset sh) en)
 
 module _ (m : Tables) (o : List ℕ) where
   pub puttable : is_done (write_check m o) ≡ true → Puttable m (length o)
@@ -263,3 +265,9 @@ module _ (m : Tables) (o : List ℕ) where
   -- a writer that is done
   pub is_written : (r : Answer) (e : List ℕ) → is_done (write_check m o) ≡ true → r ≡ done nought → e ≡ over 0 (model_file m) o → Written m o r e
   is_written r e ok d h = record { answer = rw ok d; file = rw ok h }
+
+  -- a writer that is refused
+  pub is_refused : {x : Answer} → Err x ≡ tables_fault (write_rooms m.shape (length o)) m → Written m o x o
+  is_refused e =
+      let stopped = Unsampled.is_refused (write_rooms m.shape (length o)) m e in
+      record { answer = rw stopped (Unsampled.refusal_is (write_rooms m.shape (length o)) m e); file = rw stopped refl }

@@ -7,19 +7,19 @@ mod pack;
 mod unpack;
 
 ghost use Rattle.std.specs.Prelude.{◌≡◌};
-ghost use Rattle.answer.specs.Checks.{first_of};
-ghost use Rattle.model.specs.Lent.{tables_of};
-ghost use Rattle.checks.specs.Checks.{check_tables};
+ghost use Rattle.answer.specs.Checks.{first_fault};
+ghost use Rattle.model.specs.Lent.{tables_behind};
+ghost use Rattle.checks.specs.Checks.{tables_fault};
 ghost use Rattle.file_layout.specs.Checks.{read_tests, write_rooms};
 ghost use Rattle.model_file.specs.Call.{outputs, Read, Written, length_of};
 
 use crate::pack::{put_bodies, put_contents, put_first};
 use crate::unpack::{lay_end, lay_table};
-use answer::{Answer, done, is_done};
-use checks::{check_entries, check_rooms, check_shape, check_sizes};
+use answer::{Answer, Checked, done};
+use checks::{Room, check_entries, check_rooms, check_shape, check_sizes};
 use file_layout::inspect::{check_file, check_words, shape_of};
 use file_layout::layout::{count, offset};
-use model::Shape;
+use model::{Shape, Tables};
 
 // What a reader gives back: its answer, and the shape of the model that it read. Refused, the shape is that of no model.
 #[derive(Clone, Copy)]
@@ -33,7 +33,7 @@ pub struct Reading {
 pub fn file_length(shape: Shape) -> usize
     ensures { result ≡ length_of shape }
 {
-    if !is_done(check_shape(shape)) {
+    if check_shape(shape).is_err() {
         return 0;
     }
     offset(shape, count(shape))
@@ -47,22 +47,19 @@ const NO_SHAPE: Shape = Shape {
 };
 
 // All checks of a reader, by the lengths of the four tables that it is lent.
-#[tactic(auto, using(crate::proofs::ReadChecks::read_steps))]
-fn check_read(file: &[u8], transition: usize, emission: usize, initial: usize, end: usize) -> Answer
-    ensures { result ≡ first_of (read_tests file.now transition emission initial end) }
+fn check_read(file: &[u8], transition: usize, emission: usize, initial: usize, end: usize) -> Checked
+    ensures { result ≡ first_fault (read_tests file.now transition emission initial end) }
 {
-    let checked = check_file(file);
-    if !is_done(checked) {
-        return checked;
-    }
+    check_file(file)?;
     let shape = shape_of(file);
     let states = shape.states;
-    let needed = [states * states, states * shape.symbols, states, states];
-    let lent = [transition, emission, initial, end];
-    let checked = check_rooms(false, 6, &needed, &lent);
-    if !is_done(checked) {
-        return checked;
-    }
+    let outputs = [
+        Room::of(states * states, transition),
+        Room::of(states * shape.symbols, emission),
+        Room::of(states, initial),
+        Room::of(states, end),
+    ];
+    check_rooms(false, 6, &outputs)?;
     check_words(shape, file)
 }
 
@@ -82,14 +79,13 @@ pub fn read_model(
         result
         (outputs transition.new emission.new initial.new end.new) }
 {
-    let answer = check_read(
+    if let Err(answer) = check_read(
         file,
         transition.len(),
         emission.len(),
         initial.len(),
         end.len(),
-    );
-    if !is_done(answer) {
+    ) {
         return Reading {
             answer,
             shape: NO_SHAPE,
@@ -107,56 +103,33 @@ pub fn read_model(
 }
 
 // All checks of a writer, by the length of the output that it is lent.
-fn check_write(
-    shape: Shape,
-    transition: &[f64],
-    emission: &[f64],
-    initial: &[f64],
-    end: &[f64],
-    file: usize,
-) -> Answer
-    ensures { result ≡ check_tables (write_rooms shape file)
-        (tables_of shape transition.now emission.now initial.now end.now) }
+fn check_write(tables: &Tables, file: usize) -> Checked
+    ensures { result ≡ tables_fault (write_rooms tables.now.shape file) (tables_behind tables.now) }
 {
-    let checked = check_sizes(
+    let shape = tables.shape;
+    check_sizes(
         false,
         shape,
-        transition.len(),
-        emission.len(),
-        initial.len(),
-        end.len(),
+        tables.transition.len(),
+        tables.emission.len(),
+        tables.initial.len(),
+        tables.end.len(),
         0,
-    );
-    if !is_done(checked) {
-        return checked;
-    }
+    )?;
     let needed = offset(shape, count(shape));
-    let checked = check_rooms(false, 5, &[needed], &[file]);
-    if !is_done(checked) {
-        return checked;
-    }
-    check_entries(shape, transition, emission, initial, end)
+    check_rooms(false, 5, &[Room::of(needed, file)])?;
+    check_entries(tables)
 }
 
 // Writes the file of a model over the front of output 5.
-pub fn write_model(
-    shape: Shape,
-    transition: &[f64],
-    emission: &[f64],
-    initial: &[f64],
-    end: &[f64],
-    file: &mut [u8],
-) -> Answer
-    ensures { Written
-        (tables_of shape transition.now emission.now initial.now end.now)
-        file.old result file.new }
+pub fn write_model(tables: &Tables, file: &mut [u8]) -> Answer
+    ensures { Written (tables_behind tables.now) file.old result file.new }
 {
-    let answer = check_write(shape, transition, emission, initial, end, file.len());
-    if !is_done(answer) {
-        return answer;
+    if let Err(refusal) = check_write(tables, file.len()) {
+        return refusal;
     }
-    put_first(file, shape);
-    put_contents(file, shape, transition, emission, initial, end);
-    put_bodies(file, shape, transition, emission, initial, end);
+    put_first(file, tables.shape);
+    put_contents(file, tables);
+    put_bodies(file, tables);
     done(0.0)
 }

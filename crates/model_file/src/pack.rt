@@ -2,7 +2,7 @@
 ghost use Rattle.std.specs.Prelude.{◌≡◌, ◌+◌, ◌*◌, ◌<◌, ◌≤◌, length};
 ghost use Rattle.lists.specs.Lists.{over};
 ghost use Rattle.little_endian.specs.Bytes.{bytes, sum};
-ghost use Rattle.model.specs.Lent.{tables_of};
+ghost use Rattle.model.specs.Lent.{tables_behind};
 ghost use Rattle.file_layout.specs.Layout as Spec;
 ghost use Rattle.file_layout.specs.Layout.{bits};
 ghost use Rattle.model.specs.Accepted.{InRange};
@@ -10,7 +10,7 @@ ghost use Rattle.model_file.specs.inner.Putting.{Numbers, Puttable, entry_of, co
 
 use file_layout::layout::{count, flag, offset};
 use little_endian::put;
-use model::Shape;
+use model::{Shape, Tables};
 
 // The sum of a table's words, wrapping at 2^64.
 #[tactic(auto, using(crate::proofs::Putting::summed_table))]
@@ -58,45 +58,29 @@ pub(crate) fn put_first(file: &mut [u8], shape: Shape)
 }
 
 // Writes the contents, from byte 8 on.
-pub(crate) fn put_contents(
-    file: &mut [u8],
-    shape: Shape,
-    transition: &[f64],
-    emission: &[f64],
-    initial: &[f64],
-    end: &[f64],
-)
-    requires { Puttable (tables_of shape transition.now emission.now initial.now end.now) (length file.old) }
-    ensures { file.new ≡ over 8
-        (contents_of (tables_of shape transition.now emission.now initial.now end.now))
-        file.old }
+pub(crate) fn put_contents(file: &mut [u8], tables: &Tables)
+    requires { Puttable (tables_behind tables.now) (length file.old) }
+    ensures { file.new ≡ over 8 (contents_of (tables_behind tables.now)) file.old }
 {
-    put_entry(file, shape, 0, transition);
-    put_entry(file, shape, 1, emission);
-    put_entry(file, shape, 2, initial);
+    let shape = tables.shape;
+    put_entry(file, shape, 0, tables.transition);
+    put_entry(file, shape, 1, tables.emission);
+    put_entry(file, shape, 2, tables.initial);
     if shape.ends {
-        put_entry(file, shape, 3, end);
+        put_entry(file, shape, 3, tables.end);
     }
 }
 
 // Writes the bodies, behind the contents.
-pub(crate) fn put_bodies(
-    file: &mut [u8],
-    shape: Shape,
-    transition: &[f64],
-    emission: &[f64],
-    initial: &[f64],
-    end: &[f64],
-)
-    requires { Puttable (tables_of shape transition.now emission.now initial.now end.now) (length file.old) }
-    ensures { file.new ≡ over (Spec.offset shape 0)
-        (bodies_of (tables_of shape transition.now emission.now initial.now end.now))
-        file.old }
+pub(crate) fn put_bodies(file: &mut [u8], tables: &Tables)
+    requires { Puttable (tables_behind tables.now) (length file.old) }
+    ensures { file.new ≡ over (Spec.offset tables.now.shape 0) (bodies_of (tables_behind tables.now)) file.old }
 {
-    put_words(file, offset(shape, 0), transition);
-    put_words(file, offset(shape, 1), emission);
-    put_words(file, offset(shape, 2), initial);
+    let shape = tables.shape;
+    put_words(file, offset(shape, 0), tables.transition);
+    put_words(file, offset(shape, 1), tables.emission);
+    put_words(file, offset(shape, 2), tables.initial);
     if shape.ends {
-        put_words(file, offset(shape, 3), end);
+        put_words(file, offset(shape, 3), tables.end);
     }
 }

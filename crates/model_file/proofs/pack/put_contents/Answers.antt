@@ -6,7 +6,7 @@ use Rattle.model_file.proofs.pack.put_contents.Goals as goal
 
 pub put_entry-requires : goal.put_entry-requires
 put_entry-requires c =
-    (c.requires.in_range, omega arith, entries_room _ _ c.requires 0 (omega (arith, count_low c.args.shape)), c.requires.numbers 0)
+    (c.requires.in_range, omega arith, entries_room _ _ c.requires 0 (omega (arith, count_low c.args.tables.now.shape)), c.requires.numbers 0)
 
 pub put_entry-requires-2 : goal.put_entry-requires-2
 put_entry-requires-2 c = (c.requires.in_range, omega arith, entry_room_1 _ _ c.requires c.args.file.now refl _ c.put_entry.ensures, c.requires.numbers 1)
