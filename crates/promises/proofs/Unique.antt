@@ -9,9 +9,10 @@ use Rattle.answer.specs.declared.Answer.{Answer}
 use Rattle.probs.specs.Calls.{Cumulated}
 use Rattle.model.specs.Lent as Lent
 use Rattle.model.specs.Lent.{Tables, Lent, S}
-use Rattle.model.specs.Model.{model_of}
+use Rattle.model.specs.Model.{Model, model_of}
 use Rattle.lists.specs.Lists.{table}
 use Rattle.best_path.specs.inner.Step.{Stored}
+use Rattle.walk.specs.inner.Path.{Found}
 use Rattle.viterbi.specs.Call as Viterbi
 use Rattle.viterbi.specs.Call.{Decoded}
 use Rattle.rival.specs.declared.Rivalry.{Rivalry}
@@ -28,7 +29,7 @@ use Rattle.wasnugram.specs.Face.{flattened, flat_reading, flat_rivalry, Answers}
 use Rattle.wasnugram.specs.declared.WasnugramAnswer.{WasnugramAnswer}
 use Rattle.wasnugram.proofs.Face.{face_is_unique}
 use Rattle.promises.specs.Unique.{Unique, EveryPromiseIsUnique, OfFloats, OfLittleEndian, OfAnswer, OfKernels, OfProb, OfLogProb, OfPHREDProb, OfSums}
-use Rattle.promises.specs.Unique.{OfModel, OfChecks, OfEmission, OfBestPath, OfWalk, OfOccupancy, OfCalls, OfModelFile, OfExportedCalls, OfFace}
+use Rattle.promises.specs.Unique.{OfModel, OfChecks, OfCheckResults, OfEmission, OfBestPath, OfWalk, OfOccupancy, OfCalls, OfModelFile, OfExportedCalls, OfFace}
 
 -- ---- a promise that is one equality
 one : {A : Type 0} (v : A) → Unique (λ (r : A). r ≡ v)
@@ -47,6 +48,15 @@ stored i v f values from x y p q =
     let row : x.0 ≡ y.0 = p.values_stored ∙ sym q.values_stored in
     let before : x.1 ≡ y.1 = p.from_stored ∙ sym q.from_stored in
     λ k. (row k, before k)
+
+found_one : (m : Model) (n : ℕ) (path : List ℕ) (values : List Float) (from : List ℕ)
+    → Unique (λ (e : Float × List ℕ × List Float × List ℕ). Found m n e.0 path e.1 values e.2 from e.3)
+found_one m n path values from x y p q =
+    let value : x.0 ≡ y.0 = p.value_found ∙ sym q.value_found in
+    let path : x.1 ≡ y.1 = p.path_stored ∙ sym q.path_stored in
+    let values : x.2 ≡ y.2 = p.rows_filled.values_stored ∙ sym q.rows_filled.values_stored in
+    let from : x.3 ≡ y.3 = p.rows_filled.from_stored ∙ sym q.rows_filled.from_stored in
+    λ i. (value i, path i, values i, from i)
 
 decoded : (l : Lent) (o : Viterbi.Outputs) → Unique (λ (r : Answer × Viterbi.Outputs). Decoded l o r.0 r.1)
 decoded l o x y p q =
@@ -181,6 +191,7 @@ of_sums_lem =
       close = λ peak sum. one _;
       open_sum = λ xs. one _;
       close_sum = λ whole. one _;
+      ln_sum_by = λ n f. one _;
       ln_sum = λ xs. one _;
     }
 
@@ -209,11 +220,27 @@ of_checks_lem =
       check_rest = λ l needed lent. one _;
     }
 
+of_check_results_lem : OfCheckResults
+of_check_results_lem =
+    record {
+      check_shape = λ shape. one _;
+      check_count = λ needs_sample samples. one _;
+      check_rooms = λ exact first rooms. one _;
+      first_bad_end = λ ends table. one _;
+      first_bad = λ table. one _;
+      check_entries = λ m. one _;
+      first_bad_sample = λ symbols samples. one _;
+      check_samples = λ symbols samples. one _;
+      check_sizes = λ needs_sample shape transition emission initial end samples. one _;
+      check_rest = λ l outputs. one _;
+    }
+
 of_emission_lem : OfEmission
 of_emission_lem =
     record {
       lay_emissions = λ emission states symbols samples t emissions. one _;
       lay_barred = λ emission states symbols samples index state t emissions. one _;
+      lay_barred_by = λ l bar t emissions. one _;
       first_row = λ initial emissions values. one _;
     }
 
@@ -234,20 +261,16 @@ of_walk_lem =
     record {
       rows = λ states symbols transition emission initial samples index state values from x y p q.
           stored 0 _ _ values from x y (p false (λ (j : ℕ). nought)) (q false (λ (j : ℕ). nought));
-      decode = λ l index state path values from x y p q.
-          let value : x.0 ≡ y.0 = p.value_found ∙ sym q.value_found in
-          let path : x.1 ≡ y.1 = p.path_stored ∙ sym q.path_stored in
-          let values : x.2 ≡ y.2 = p.rows_filled.values_stored ∙ sym q.rows_filled.values_stored in
-          let from : x.3 ≡ y.3 = p.rows_filled.from_stored ∙ sym q.rows_filled.from_stored in
-          λ i. (value i, path i, values i, from i);
+      decode = λ l index state path values from. found_one _ _ path values from;
+      decode_barred = λ l bar path values from. found_one _ _ path values from;
     }
 
 of_occupancy_lem : OfOccupancy
 of_occupancy_lem =
     record {
-      occupancy = λ pass alpha beta i t. one _;
-      gamma = λ pass alpha beta i. one _;
-      denominator = λ pass alpha beta i. one _;
+      occupancy = λ pass i t. one _;
+      gamma = λ pass i. one _;
+      denominator = λ pass i. one _;
       is_massless = λ gamma denominator. one _;
     }
 
@@ -297,6 +320,7 @@ every_promise_is_unique =
       of_sums = of_sums_lem;
       of_model = of_model_lem;
       of_checks = of_checks_lem;
+      of_check_results = of_check_results_lem;
       of_emission = of_emission_lem;
       of_best_path = of_best_path_lem;
       of_walk = of_walk_lem;

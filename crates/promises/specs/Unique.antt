@@ -1,7 +1,8 @@
 -- That a promise leaves one result (RULES 8.2): two results that meet it are equal. There is a line for each public function, by its name in
 -- the code and with the promise of its contract; one that writes memory gives what its outputs hold at the end. What a function asks of its
 -- caller is not needed for it. The inner functions that promise less than one result are listed in docs/LOOSE.md.
-use Rattle.std.specs.Prelude.{ℕ, ◌-◌, ◌*◌, ◌/◌, ◌%◌, ◌^◌, ◌<◌, ◌≡◌, Bool, ◌||◌, List, length, get_or, Float}
+use Rattle.std.specs.Prelude.{ℕ, ◌-◌, ◌*◌, ◌/◌, ◌%◌, ◌^◌, ◌<◌, ◌≡◌, Bool, ◌||◌, List, length, get_or, Float, not, Option, Result}
+use Rattle.std.specs.List.{position}
 use Rattle.floats.specs.Float as Float
 use Rattle.floats.specs.Float.{◌⊕◌, minus_infinity, is_number, is_minus_infinity, is_plus_infinity, is_infinite, is_plus_zero, at}
 use Rattle.lists.specs.Lists as Lists
@@ -9,7 +10,7 @@ use Rattle.lists.specs.Lists.{tab, part, over, first_bad}
 use Rattle.little_endian.specs.Bytes.{little, value, words, sum}
 use Rattle.answer.specs.Answer as Spec
 use Rattle.answer.specs.Answer.{number_of}
-use Rattle.answer.specs.Checks.{first_of}
+use Rattle.answer.specs.Checks.{first_of, first_fault}
 use Rattle.answer.specs.declared.Answer.{Answer}
 use Rattle.answer.specs.declared.Refusal.{Refusal}
 use Rattle.kernels.specs.Exp.{exp_of}
@@ -27,21 +28,23 @@ use Rattle.probs.specs.declared.PHREDProb.{PHREDProb}
 use Rattle.sums.specs.declared.sum.Peak.{Peak}
 use Rattle.sums.specs.declared.sum.Open.{Open}
 use Rattle.model.specs.declared.Shape.{Shape}
-use Rattle.model.specs.Lent.{Tables, Lent, T, tables_of, lent}
+use Rattle.model.specs.Lent.{Tables, Lent, S, T, tables_of, lent}
 use Rattle.model.specs.Good.{good, good_end, good_bits}
 use Rattle.model.specs.inner.Marks.{is_set}
 use Rattle.model.specs.Model.{emission_of, model_of}
+use Rattle.checks.specs.declared.Room.{Room}
 use Rattle.checks.specs.Rooms.{rooms_of}
 use Rattle.checks.specs.Checks.{shape_tests, count_tests, room_tests, entry_tests, is_symbol, sample_tests}
 use Rattle.checks.specs.inner.Parts.{sizes_of, rest_tests}
-use Rattle.emission.specs.Barring.{barring}
-use Rattle.emission.specs.inner.Row.{first_row}
+use Rattle.emission.specs.declared.Bar.{Bar}
+use Rattle.emission.specs.Barring.{barring, barring_by}
+use Rattle.emission.specs.inner.Row.{emissions_of, first_row}
 use Rattle.best_path.specs.Best.{greatest}
 use Rattle.best_path.specs.Walk.{ended, path_to}
 use Rattle.best_path.specs.inner.Back.{from_at}
 use Rattle.best_path.specs.inner.Step.{Stepped}
 use Rattle.best_path.specs.inner.Row.{first_from}
-use Rattle.walk.specs.Barred.{barred}
+use Rattle.walk.specs.Barred.{barred, barred_by}
 use Rattle.walk.specs.inner.Rows.{RowsStored}
 use Rattle.walk.specs.inner.Path.{Found}
 use Rattle.viterbi.specs.Call.{Outputs, Decoded}
@@ -51,7 +54,7 @@ use Rattle.rival.specs.Call.{Asked, asked, Told}
 use Rattle.likelihood.specs.Call.{Forward, Backward}
 use Rattle.occupancy.specs.declared.Pass.{Pass}
 use Rattle.occupancy.specs.Occupancy as Occupancy
-use Rattle.occupancy.specs.inner.Rows.{rows_of}
+use Rattle.occupancy.specs.inner.Rows.{lent_of, rows_of}
 use Rattle.baum_welch.specs.Call as BaumWelch
 use Rattle.baum_welch.specs.Call.{Trained}
 use Rattle.model_file.specs.declared.Reading.{Reading}
@@ -127,6 +130,7 @@ pub record OfSums : Type 0 where
   pub close : (peak : Peak) (sum : Float) → Unique (λ (r : Float). r ≡ grown peak sum)
   pub open_sum : (xs : List Float) → Unique (λ (r : Open). r ≡ opened (length xs) (at xs))
   pub close_sum : (whole : Open) → Unique (λ (r : Float). r ≡ closed_sum whole)
+  pub ln_sum_by : (n : ℕ) (f : ℕ → Float) → Unique (λ (r : Float). r ≡ ln_sum n f)
   pub ln_sum : (xs : List Float) → Unique (λ (r : Float). r ≡ ln_sum (length xs) (at xs))
 
 pub record OfModel : Type 0 where
@@ -150,11 +154,30 @@ pub record OfChecks : Type 0 where
       → Unique (λ (r : Answer). r ≡ first_of (sizes_of needs_sample shape transition emission initial end samples))
   pub check_rest : (l : Lent) (needed lent : List ℕ) → Unique (λ (r : Answer). r ≡ first_of (rest_tests (rooms_of needed lent) l))
 
+-- the same as the code's checks say them: nothing, or the refusal of the first fault; and what its searches give
+pub record OfCheckResults : Type 0 where
+  pub check_shape : (shape : Shape) → Unique (λ (r : Result Unit Answer). r ≡ first_fault (shape_tests shape))
+  pub check_count : (needs_sample : Bool) (samples : ℕ) → Unique (λ (r : Result Unit Answer). r ≡ first_fault (count_tests needs_sample samples))
+  pub check_rooms : (exact : Bool) (first : ℕ) (rooms : List Room)
+      → Unique (λ (r : Result Unit Answer). r ≡ first_fault (room_tests exact first rooms))
+  pub first_bad_end : (ends : Bool) (table : List Float)
+      → Unique (λ (r : Option ℕ). r ≡ position (λ (x : Float). not (good_end ends x)) table)
+  pub first_bad : (table : List Float) → Unique (λ (r : Option ℕ). r ≡ position (λ (x : Float). not (good x)) table)
+  pub check_entries : (m : Tables) → Unique (λ (r : Result Unit Answer). r ≡ first_fault (entry_tests m))
+  pub first_bad_sample : (symbols : ℕ) (samples : List ℕ)
+      → Unique (λ (r : Option ℕ). r ≡ position (λ (x : ℕ). not (is_symbol symbols x)) samples)
+  pub check_samples : (symbols : ℕ) (samples : List ℕ) → Unique (λ (r : Result Unit Answer). r ≡ first_fault (sample_tests symbols samples))
+  pub check_sizes : (needs_sample : Bool) (shape : Shape) (transition emission initial end samples : ℕ)
+      → Unique (λ (r : Result Unit Answer). r ≡ first_fault (sizes_of needs_sample shape transition emission initial end samples))
+  pub check_rest : (l : Lent) (outputs : List Room) → Unique (λ (r : Result Unit Answer). r ≡ first_fault (rest_tests outputs l))
+
 pub record OfEmission : Type 0 where
   pub lay_emissions : (emission : List Float) (states symbols : ℕ) (samples : List ℕ) (t : ℕ) (emissions : List Float)
       → Unique (λ (e : List Float). e ≡ over 0 (tab states (emission_of symbols emission samples t)) emissions)
   pub lay_barred : (emission : List Float) (states symbols : ℕ) (samples : List ℕ) (index state t : ℕ) (emissions : List Float)
       → Unique (λ (e : List Float). e ≡ over 0 (tab states (barring index state (emission_of symbols emission samples) t)) emissions)
+  pub lay_barred_by : (l : Lent) (bar : Option Bar) (t : ℕ) (emissions : List Float)
+      → Unique (λ (e : List Float). e ≡ over 0 (tab (S l) (barring_by bar (emissions_of l) t)) emissions)
   pub first_row : (initial emissions values : List Float) → Unique (λ (e : List Float). e ≡ over 0 (first_row initial emissions) values)
 
 pub record OfBestPath : Type 0 where
@@ -180,12 +203,15 @@ pub record OfWalk : Type 0 where
   pub decode : (l : Lent) (index state : ℕ) (path : List ℕ) (values : List Float) (from : List ℕ)
       → Unique (λ (e : Float × List ℕ × List Float × List ℕ).
       Found (barred index state (model_of l)) (T l) e.0 path e.1 values e.2 from e.3)
+  pub decode_barred : (l : Lent) (bar : Option Bar) (path : List ℕ) (values : List Float) (from : List ℕ)
+      → Unique (λ (e : Float × List ℕ × List Float × List ℕ).
+      Found (barred_by bar (model_of l)) (T l) e.0 path e.1 values e.2 from e.3)
 
 pub record OfOccupancy : Type 0 where
-  pub occupancy : (pass : Pass) (alpha beta : List Float) (i t : ℕ) → Unique (λ (r : Float). r ≡ Occupancy.occupancy (rows_of pass alpha beta) i t)
-  pub gamma : (pass : Pass) (alpha beta : List Float) (i : ℕ) → Unique (λ (r : Float). r ≡ Occupancy.gamma (rows_of pass alpha beta) i)
-  pub denominator : (pass : Pass) (alpha beta : List Float) (i : ℕ)
-      → Unique (λ (r : Float). r ≡ Occupancy.denominator pass.shape.ends (rows_of pass alpha beta) i)
+  pub occupancy : (pass : Pass) (i t : ℕ) → Unique (λ (r : Float). r ≡ Occupancy.occupancy (rows_of pass) i t)
+  pub gamma : (pass : Pass) (i : ℕ) → Unique (λ (r : Float). r ≡ Occupancy.gamma (rows_of pass) i)
+  pub denominator : (pass : Pass) (i : ℕ)
+      → Unique (λ (r : Float). r ≡ Occupancy.denominator (lent_of pass).tables.shape.ends (rows_of pass) i)
   pub is_massless : (gamma denominator : Float) → Unique (λ (r : Bool). r ≡ (is_minus_infinity gamma || is_minus_infinity denominator))
 
 -- the calls on a model: the answer and every output
@@ -247,6 +273,7 @@ pub record EveryPromiseIsUnique : Type 0 where
   pub of_sums : OfSums
   pub of_model : OfModel
   pub of_checks : OfChecks
+  pub of_check_results : OfCheckResults
   pub of_emission : OfEmission
   pub of_best_path : OfBestPath
   pub of_walk : OfWalk
