@@ -1,5 +1,7 @@
 -- Numbers as bytes in the words of the library: what `to_le_bytes` and `from_le_bytes` give, and the parts of `as_chunks`.
-use Rattle.std.proofs.Common.{◌≡◌, ℕ, zero, suc, ◌+◌, ◌-◌, ◌*◌, ◌/◌, ◌%◌, ◌^◌, ◌<◌, ◌≤◌, List, [], ◌∷◌, length, get_or, take, drop, map, sym, refl, ap, ◌∙◌, ap₂, arith, div-one, pow-suc, w64, length-drop, length-take, take-take, drop-cons, drop-drop, add-one, zero-add, le_of_suc-le-suc, not-suc-le-zero}
+use Rattle.std.proofs.Common.{◌≡◌, ℕ, zero, suc, ◌+◌, ◌-◌, ◌*◌, ◌/◌, ◌%◌, ◌^◌, ◌<◌, ◌≤◌, List, [], ◌∷◌, length, get_or, take, drop, map, sym, refl, ap, ◌∙◌, ap₂, arith, div-one, pow-suc, w64, length-drop, length-take, take-take, drop-cons, drop-drop, add-one, zero-add, le_of_suc-le-suc, not-suc-le-zero, le_of_eq}
+use lib.Seq.{take_all, get_or-take}
+use Rattle.lists.proofs.Parts.{drop_take}
 use Rattle.std.proofs.Math.Nat.{div-div-eq-div-mul, min-le_left}
 use Rattle.std.specs.Int.{bytes_low_first, byte_at, from_le_bytes, to_le_bytes}
 use Rattle.std.specs.Simd.{first_chunks}
@@ -76,25 +78,44 @@ unfolding total
 fold_words [] t h = omega arith
 fold_words (w ∷ ws) t h = let r = fold_words ws (with_word t w) (omega arith) in omega arith
 
--- the parts of n words from byte `at` on, as `as_chunks` gives them
+-- the first n parts of all that follow byte `at`, as `as_chunks` gives them
+fewer : (n k : ℕ) (bs : List ℕ) → n ≤ k → take n (first_chunks 8 k bs) ≡ first_chunks 8 n bs
+fewer zero k bs h = refl
+fewer (suc n) zero bs h = absurd (not-suc-le-zero h)
+fewer (suc n) (suc k) bs h = ap (λ (l : List (List ℕ)). take 8 bs ∷ l) (fewer n k (drop 8 bs) (le_of_suc-le-suc h))
+
 parts_of : (bs : List ℕ) (at n : ℕ) (parts : List (List ℕ)) → at + 8 * n ≤ length bs
-    → parts ≡ first_chunks 8 (length (take (at + 8 * n - at) (drop at bs)) / 8) (take (at + 8 * n - at) (drop at bs)) → parts ≡ first_chunks 8 n (part at (8 * n) bs)
+    → parts ≡ first_chunks 8 (length (take (length bs - at) (drop at bs)) / 8) (take (length bs - at) (drop at bs)) → take n parts ≡ first_chunks 8 n (drop at bs)
 parts_of bs at n parts h e =
-    let w : at + 8 * n - at ≡ 8 * n = omega arith in
-    let l : length (part at (8 * n) bs) ≡ 8 * n = length_part at (8 * n) bs h in
-    let k : 8 * n / 8 ≡ n = omega arith in
-    rw (w, l, k) at e
+    let rest : length (drop at bs) ≡ length bs - at = length-drop at bs in
+    let all = take_all (length bs - at) (drop at bs) (le_of_eq rest) in
+    rw (e, all, rest) (fewer n ((length bs - at) / 8) (drop at bs) (omega arith))
+
+-- only the bytes of n words are read
+words_part : (n : ℕ) (bs : List ℕ) → words n (take (8 * n) bs) ≡ words n bs
+unfolding words
+words_part zero bs = refl
+words_part (suc n) bs =
+    let e : 8 * suc n ≡ 8 + 8 * n = omega arith in
+    let t : take 8 (take (8 * suc n) bs) ≡ take 8 bs = take-take 8 (8 * suc n) bs (omega arith) in
+    let d : drop 8 (take (8 * suc n) bs) ≡ take (8 * n) (drop 8 bs) = ap (λ (k : ℕ). drop 8 (take k bs)) e ∙ drop_take 8 (8 * n) bs in
+    ap₂ (λ (a : List ℕ) (b : List ℕ). value a ∷ words n b) t d ∙ ap (λ (w : List ℕ). value (take 8 bs) ∷ w) (words_part n (drop 8 bs))
 
 pub sum_words : (bs : List ℕ) (at n : ℕ) (parts : List (List ℕ)) → at + 8 * n ≤ length bs
-    → parts ≡ first_chunks 8 (length (take (at + 8 * n - at) (drop at bs)) / 8) (take (at + 8 * n - at) (drop at bs))
-    → fold with_word 0 (map (from_le_bytes w64) parts) ≡ sum (words n (part at (8 * n) bs))
+    → parts ≡ first_chunks 8 (length (take (length bs - at) (drop at bs)) / 8) (take (length bs - at) (drop at bs))
+    → fold with_word 0 (map (from_le_bytes w64) (take n parts)) ≡ sum (words n (part at (8 * n) bs))
 unfolding sum
 sum_words bs at n parts h e =
-    let ws = words n (part at (8 * n) bs) in
-    rw (parts_of bs at n parts h e, read_words n (part at (8 * n) bs), fold_words ws 0 (omega arith), zero-add)
+    rw (
+      parts_of bs at n parts h e,
+      read_words n (drop at bs),
+      fold_words (words n (drop at bs)) 0 (omega arith),
+      zero-add,
+      words_part n (drop at bs),
+    )
 
 pub first_word : (bs : List ℕ) (at : ℕ) (parts : List (List ℕ)) → at + 8 ≤ length bs
-    → parts ≡ first_chunks 8 (length (take (at + 8 - at) (drop at bs)) / 8) (take (at + 8 - at) (drop at bs)) → from_le_bytes w64 (get_or parts 0 []) ≡ value (part at 8 bs)
+    → parts ≡ first_chunks 8 (length (take (length bs - at) (drop at bs)) / 8) (take (length bs - at) (drop at bs)) → from_le_bytes w64 (get_or parts 0 []) ≡ value (part at 8 bs)
 first_word bs at parts h e =
-    let w : get_or parts 0 [] ≡ part at 8 bs = ap (λ (l : List (List ℕ)). get_or l 0 []) (parts_of bs at 1 parts h e) ∙ take-take 8 8 (drop at bs) (omega arith) in
+    let w : get_or parts 0 [] ≡ part at 8 bs = sym (get_or-take 1 parts 0 [] (omega arith)) ∙ ap (λ (l : List (List ℕ)). get_or l 0 []) (parts_of bs at 1 parts h e) in
     ap (from_le_bytes w64) w ∙ word_value (part at 8 bs) (omega (arith, length_part at 8 bs h))

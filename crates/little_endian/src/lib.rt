@@ -19,7 +19,7 @@ pub fn word_at(bytes: &[u8], at: usize) -> u64
     requires { at + 8 ≤ length bytes.now }
     ensures { result ≡ value (part at 8 bytes.now) }
 {
-    let (words, _) = bytes[at..at + 8].as_chunks::<8>();
+    let (words, _) = bytes[at..].as_chunks::<8>();
     u64::from_le_bytes(words[0])
 }
 
@@ -28,8 +28,8 @@ pub fn sum_of(bytes: &[u8], at: usize, n: usize) -> u64
     requires { at + 8 * n ≤ length bytes.now }
     ensures { result ≡ sum (words n (part at (8 * n) bytes.now)) }
 {
-    let (words, _) = bytes[at..at + 8 * n].as_chunks::<8>();
-    words
+    let (words, _) = bytes[at..].as_chunks::<8>();
+    words[..n]
         .iter()
         .map(|word| u64::from_le_bytes(*word))
         .fold(0u64, |total, word| total.wrapping_add(word))
