@@ -1,8 +1,8 @@
 // The likelihood of the samples under a model, by the forward and the backward walk (Rabiner's forward-backward procedure).
-// Both walks go down the rows of the lent values: row i is alpha at sample i or, going back, beta at sample T-1-i. They differ in the first
-// row, a cell, the time of a row's sample, the last sum and the checks, which the trait Way has apart. A sum has a term for each state, 64
-// at most, so they are laid out in a local array, as the emissions of a row's sample are: a walk reads them from there, whatever an
-// emission is made of. The logarithms of a row are taken at its end, one right after the other.
+// Both walks go down the rows of the lent values: row i is alpha at sample i or, going back, beta at sample T-1-i. The trait Way says what
+// differs: the first row, a cell, the time of a row's sample and the last sum; the forward walk alone needs a sample. A sum has a term for
+// each state, 64 at most, so they are laid out in a local array, as the emissions of a row's sample are: a walk reads them from there,
+// whatever an emission is made of. The logarithms of a row are taken at its end, one right after the other.
 
 #![tactic(auto)]
 
