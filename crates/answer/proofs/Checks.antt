@@ -1,12 +1,11 @@
 -- Laws of a list of tests: which part of a list answers, and what is known once none finds fault.
 use Prim.Native.Nat.{ℕ, ◌<◌}
 use mathlib.Core.Path.{◌≡◌, refl, sym, ap, subst, ◌∙◌}
-use mathlib.Core.Bool.{Bool, true, false, true≢false, cond, not}
+use mathlib.Core.Bool.{Bool, true, false, true≢false, cond}
 use mathlib.Core.List.{[], ◌∷◌, ◌++◌}
 use native.Mathlib.Omega.{arith}
 use lib.Dec.{T, ltb, ltb→lt}
-use lib.Ieee.{Float}
-use borrow.Author.Tests.{eqb-true, not-true, not-false}
+use borrow.Author.Tests.{eqb-true}
 use Rattle.floats.specs.Float.{minus_infinity}
 use Rattle.answer.specs.declared.Answer.{Answer}
 use Rattle.answer.specs.Answer.{number_of, is_done, done}
@@ -90,22 +89,11 @@ pub passes : (b : Bool) (a : Answer) (ts : Tests) (r : Answer) → b ≡ false �
 unfolding first_of
 passes b a ts r h e = rw h e
 
--- no test is left: the code answers that it is done, with what it holds minus infinity to be
-pub ends : (v : Float) (r : Answer) → v ≡ minus_infinity → r ≡ done v → r ≡ first_of []
-unfolding first_of
-ends v r h e = e ∙ ap done h
-
 -- of two lists of tests, one after the other: the second answers where the first found no fault
 pub goes_on : (a b : Tests) (r : Answer) → r ≡ first_of b → Clear a → r ≡ first_of (a ++ b)
 unfolding first_of Clear
 goes_on [] b r e c = e
 goes_on (t ∷ a) b r e c = rw c.0 (goes_on a b r e c.1)
-
--- tests that find no fault may be left out
-pub left_out : (a b c : Tests) → Clear b → first_of (a ++ (b ++ c)) ≡ first_of (a ++ c)
-unfolding first_of
-left_out [] b c h = sym (goes_on b c (first_of c) refl h)
-left_out (t ∷ a) b c h = ap (cond t.0 t.1) (left_out a b c h)
 
 stop : (b : Bool) (a rest rest' : Answer) → (b ≡ false → rest' ≡ rest) → cond b a rest' ≡ cond b a rest
 stop true a rest rest' h = refl
@@ -119,23 +107,6 @@ stopped (t ∷ a) b h = stop t.0 t.1 (first_of a) (first_of (a ++ b)) (λ e. sto
 -- and the first answers where it did
 pub stops : (a b : Tests) (r : Answer) → r ≡ first_of a → is_done r ≡ false → r ≡ first_of (a ++ b)
 stops a b r e h = e ∙ sym (stopped a b (sym (ap is_done e) ∙ h))
-
--- both are done where the two together are
-pub split : (a b : Tests) → Refuses a → is_done (first_of (a ++ b)) ≡ true → (is_done (first_of a) ≡ true) × (is_done (first_of b) ≡ true)
-unfolding first_of
-split [] b r h = (refl, h)
-split (t ∷ a) b r h =
-    let p = pick t.0 t.1 (first_of (a ++ b)) r.0 h in
-    let q = split a b r.1 p.1 in
-    (rw p.0 q.0, q.1)
-
--- the code's test of an answer: b is what `is_done` gave of a, which the tests ts gave
-module _ (b : Bool) (a : Answer) (ts : Tests) (is : b ≡ is_done a) (from : a ≡ first_of ts) where
-  pub refused_by : not b ≡ true → (rest : Tests) → a ≡ first_of (ts ++ rest)
-  refused_by h rest = stops ts rest a from (sym is ∙ not-true b h)
-
-  pub passed_by : not b ≡ false → Refuses ts → Clear ts
-  passed_by h r = clear ts r (sym (is ∙ ap is_done from) ∙ not-false b h)
 
 -- what the code's check says of the tests: it is passed, or it has the answer of the list
 abbrev pub told : Result Unit Answer → Answer

@@ -2,16 +2,15 @@
 use Prim.Native.Nat.{ℕ, zero, suc, ◌≤◌, ◌<◌}
 use mathlib.Core.Path.{◌≡◌, refl, sym, ap, ◌∙◌}
 use mathlib.Core.Bool.{Bool, true, false, not}
-use mathlib.Core.List.{List, [], ◌∷◌, append-nil}
+use mathlib.Core.List.{List, [], ◌∷◌}
 use mathlib.Core.Logic.{⊎_elim}
 use native.Mathlib.Nat.{not-suc-le-zero, eq-or-lt_of_le, le_of_suc-le-suc, lt-suc_self}
 use native.Mathlib.Omega.{arith}
 use lib.ListN.{length}
 use borrow.Author.Tests.{eqb-true, eq-eqb, ltb-false, le-ltb, not-false}
-use Rattle.floats.specs.Float.{minus_infinity}
 use Rattle.lists.specs.Lists.{tab}
 use Rattle.little_endian.specs.Bytes.{sum}
-use Rattle.answer.specs.Answer.{done, is_done, refuse}
+use Rattle.answer.specs.Answer.{is_done, refuse}
 use Rattle.std.specs.Prelude.{Ok, Err}
 use Rattle.answer.specs.Checks.{Tests, first_of, first_fault}
 use Rattle.answer.proofs.Checks.{Clear, Refuses, clear, clear_both, clear_left, clear_right, all_clear, as_fault, finds, goes_on, refuse_both, stops, passes}
@@ -26,7 +25,6 @@ use Rattle.file_layout.specs.inner.Whole.{FileAccepted}
 use Rattle.file_layout.proofs.Fits.{Fits, fits_of, of_fits}
 use Rattle.answer.specs.declared.Answer.{Answer}
 use Rattle.answer.specs.declared.Refusal.TheVariants.{BadLayout}
-use lib.Ieee.{Float}
 
 -- tests by a rule
 pub tab_clear : (n : ℕ) (t : ℕ → Bool × Answer) → Clear (tab n t) → (i : ℕ) → i < n → (t i).0 ≡ false

@@ -1,5 +1,5 @@
 -- The checks of a reader in their order, and what is known once none finds fault.
-use Rattle.std.proofs.Common.{sym, ◌≡◌, ℕ, ◌*◌, ◌<◌, ◌≤◌, Bool, true, false, not, List, [], ◌∷◌, ◌++◌, length, ap, ◌∙◌, arith, ltb-false}
+use Rattle.std.proofs.Common.{sym, ◌≡◌, ℕ, ◌*◌, ◌<◌, ◌≤◌, true, false, List, [], ◌∷◌, ◌++◌, length, ap, ◌∙◌, arith, ltb-false}
 use lib.Ieee.{Float}
 use Rattle.std.specs.Prelude.{Result, Ok, Err}
 use Rattle.floats.specs.Float.{nought}

@@ -47,7 +47,13 @@ const NO_SHAPE: Shape = Shape {
 };
 
 // All checks of a reader, by the lengths of the four tables that it is lent.
-fn check_read(file: &[u8], transition: usize, emission: usize, initial: usize, end: usize) -> Checked
+fn check_read(
+    file: &[u8],
+    transition: usize,
+    emission: usize,
+    initial: usize,
+    end: usize,
+) -> Checked
     ensures { result ≡ first_fault (read_tests file.now transition emission initial end) }
 {
     check_file(file)?;

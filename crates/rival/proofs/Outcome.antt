@@ -3,7 +3,6 @@ use Prim.Native.Nat.{ℕ, ◌≤◌, ◌<◌}
 use mathlib.Core.Path.{◌≡◌, refl, sym, ap, subst, ◌∙◌}
 use mathlib.Core.Bool.{Bool, true, false, true≢false, cond}
 use mathlib.Core.List.{List}
-use native.Mathlib.Nat.{le_refl}
 use native.Mathlib.Omega.{arith}
 use borrow.Author.Tests.{lt-ltb, le-ltb, ltb-true}
 use lib.Dec.{ltb}
@@ -25,7 +24,6 @@ use Rattle.checks.specs.Checks.{tests_of, passage, check, check_fault}
 use Rattle.checks.proofs.Parts as Parts
 use Rattle.checks.proofs.Done.{passage_refuses}
 use Rattle.best_path.specs.Walk.{best_value}
-use Rattle.best_path.specs.Score.{state_at}
 use Rattle.walk.specs.Barred.{barred}
 use Rattle.walk.specs.inner.Path as Walk
 use Rattle.rival.specs.declared.Rivalry.{Rivalry}

@@ -114,13 +114,7 @@ pub fn rival(
         result
         (outputs path.new rival_path.new values.new from.new) }
 {
-    if let Err(refusal) = check(
-        lent,
-        path.len(),
-        rival_path.len(),
-        values.len(),
-        from.len(),
-    ) {
+    if let Err(refusal) = check(lent, path.len(), rival_path.len(), values.len(), from.len()) {
         return nothing(refusal);
     }
     let rivalry = foretell(lent, index);

@@ -73,16 +73,7 @@ fn carry(lent: &Lent, bar: Option<Bar>, index: usize) -> Carried
     let mut from = [0u8; 64];
     let mut origins = [0u8; 64];
     for t in 0..lent.samples.len() {
-        lay_sample(
-            lent,
-            bar,
-            t,
-            0,
-            0,
-            &mut emissions,
-            &mut row,
-            &mut from,
-        );
+        lay_sample(lent, bar, t, 0, 0, &mut emissions, &mut row, &mut from);
         let before = origins;
         lay_origins(states, t, index, &from, &before, &mut origins);
     }

@@ -7,14 +7,7 @@ use std::io;
 
 // Model P, with an end state or without one, written: the answer and the lent bytes.
 fn write(rt: &impl Print, label: &str, ends: bool, end: &[f64], file: &mut [u8]) -> io::Result<()> {
-    let lent = lend(
-        shape(2, ends),
-        &TRANSITION,
-        &EMISSION,
-        &INITIAL,
-        end,
-        &[],
-    );
+    let lent = lend(shape(2, ends), &TRANSITION, &EMISSION, &INITIAL, end, &[]);
     let a = write_model(&lent.tables, &mut file[..]);
     print!(rt; "{label}: {}", Shown(a))?;
     print::bytes(rt, file)?;

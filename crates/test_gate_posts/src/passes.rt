@@ -13,7 +13,14 @@ pub fn no_mass(rt: &impl Print) -> io::Result<()> {
     let mut alpha = [0.0; 2];
     let mut beta = [0.0; 2];
     let pass = baum_welch(
-        &lend(shape(2, false), &[0.0; 4], &[0.0; 4], &[0.0; 2], &[0.0; 2], &[0]),
+        &lend(
+            shape(2, false),
+            &[0.0; 4],
+            &[0.0; 4],
+            &[0.0; 2],
+            &[0.0; 2],
+            &[0],
+        ),
         &mut new_transition,
         &mut new_emission,
         &mut new_initial,

@@ -7,20 +7,11 @@ use std::io;
 use viterbi::viterbi;
 
 // A model, decoded: the answer, and the path where the call is done.
-fn decode(
-    rt: &impl Print,
-    label: &str,
-    lent: &Lent,
-) -> io::Result<()> {
+fn decode(rt: &impl Print, label: &str, lent: &Lent) -> io::Result<()> {
     let mut path = [0; 3];
     let mut values = [0.0; 9];
     let mut from = [0; 9];
-    let a = viterbi(
-        lent,
-        &mut path,
-        &mut values,
-        &mut from,
-    );
+    let a = viterbi(lent, &mut path, &mut values, &mut from);
     print!(rt; "{label}: {}", Shown(a))?;
     if a.is_done() {
         states(rt, &path, lent.samples.len())?;
@@ -39,7 +30,14 @@ fn decode_p(
     decode(
         rt,
         label,
-        &lend(shape(2, false), &[transition, -2.0, -2.0, -1.0], &[-1.0, -3.0, -3.0, emission], &INITIAL, &[0.0, 0.0], samples),
+        &lend(
+            shape(2, false),
+            &[transition, -2.0, -2.0, -1.0],
+            &[-1.0, -3.0, -3.0, emission],
+            &INITIAL,
+            &[0.0, 0.0],
+            samples,
+        ),
     )
 }
 
@@ -59,7 +57,14 @@ fn decode_ending(rt: &impl Print, label: &str, end: &[f64]) -> io::Result<()> {
     decode(
         rt,
         label,
-        &lend(shape(2, true), &TRANSITION, &EMISSION, &INITIAL, end, &[0, 1, 1]),
+        &lend(
+            shape(2, true),
+            &TRANSITION,
+            &EMISSION,
+            &INITIAL,
+            end,
+            &[0, 1, 1],
+        ),
     )
 }
 
@@ -68,7 +73,14 @@ fn decode_minus_zeros(rt: &impl Print, label: &str, ends: bool) -> io::Result<()
     decode(
         rt,
         label,
-        &lend(shape(2, ends), &[0.0; 4], &[-0.0; 4], &[-0.0; 2], &[0.0; 2], &[0]),
+        &lend(
+            shape(2, ends),
+            &[0.0; 4],
+            &[-0.0; 4],
+            &[-0.0; 2],
+            &[0.0; 2],
+            &[0],
+        ),
     )
 }
 
@@ -85,7 +97,14 @@ pub fn model_z(rt: &impl Print) -> io::Result<()> {
     decode(
         rt,
         "Z1",
-        &lend(shape(2, false), &[0.0; 4], &[0.0; 4], &[0.0; 2], &[0.0; 2], &[0, 0]),
+        &lend(
+            shape(2, false),
+            &[0.0; 4],
+            &[0.0; 4],
+            &[0.0; 2],
+            &[0.0; 2],
+            &[0, 0],
+        ),
     )
 }
 
@@ -94,7 +113,14 @@ pub fn no_beginning(rt: &impl Print) -> io::Result<()> {
     decode(
         rt,
         "Z3",
-        &lend(shape(3, false), &[0.0; 9], &[0.0; 6], &[f64::NEG_INFINITY; 3], &[0.0; 3], &[0, 0]),
+        &lend(
+            shape(3, false),
+            &[0.0; 9],
+            &[0.0; 6],
+            &[f64::NEG_INFINITY; 3],
+            &[0.0; 3],
+            &[0, 0],
+        ),
     )
 }
 

@@ -8,12 +8,7 @@ use std::io;
 
 // A model's rival at a sample: the answer and the rival's states, then the chosen state, and the best path's value and states. No state is
 // 255, so that both paths show what is not written.
-fn tell(
-    rt: &impl Print,
-    label: &str,
-    lent: &Lent,
-    index: usize,
-) -> io::Result<()> {
+fn tell(rt: &impl Print, label: &str, lent: &Lent, index: usize) -> io::Result<()> {
     let mut path = [255; 3];
     let mut rival_path = [255; 3];
     let mut values = [0.0; 6];
@@ -38,7 +33,14 @@ fn tell_p(rt: &impl Print, label: &str, index: usize) -> io::Result<()> {
     tell(
         rt,
         label,
-        &lend(shape(2, false), &TRANSITION, &EMISSION, &INITIAL, &[0.0; 2], &[0, 1, 1]),
+        &lend(
+            shape(2, false),
+            &TRANSITION,
+            &EMISSION,
+            &INITIAL,
+            &[0.0; 2],
+            &[0, 1, 1],
+        ),
         index,
     )
 }

@@ -6,22 +6,11 @@ use program_io::lines::Shown;
 use std::io;
 
 // Both walks, with two places for their values: a line for each answer.
-fn both(
-    rt: &impl Print,
-    forward_label: &str,
-    backward_label: &str,
-    lent: &Lent,
-) -> io::Result<()> {
+fn both(rt: &impl Print, forward_label: &str, backward_label: &str, lent: &Lent) -> io::Result<()> {
     let mut values = [0.0; 2];
-    let ahead = forward(
-        lent,
-        &mut values,
-    );
+    let ahead = forward(lent, &mut values);
     println!(rt; "{forward_label}: {}", Shown(ahead))?;
-    let back = backward(
-        lent,
-        &mut values,
-    );
+    let back = backward(lent, &mut values);
     println!(rt; "{backward_label}: {}", Shown(back))
 }
 
@@ -31,7 +20,14 @@ pub fn one_sample(rt: &impl Print) -> io::Result<()> {
         rt,
         "Z2 forward",
         "Z2 backward",
-        &lend(shape(2, false), &[0.0; 4], &[0.0; 4], &[0.0; 2], &[0.0; 2], &[0]),
+        &lend(
+            shape(2, false),
+            &[0.0; 4],
+            &[0.0; 4],
+            &[0.0; 2],
+            &[0.0; 2],
+            &[0],
+        ),
     )
 }
 

@@ -55,10 +55,7 @@ where
     requires { F.IsAlwaysCallable walk }
 {
     let mut values = untouched();
-    let a = walk(
-        &lent_of(case, tables, samples),
-        lent(&mut values, case, 6),
-    );
+    let a = walk(&lent_of(case, tables, samples), lent(&mut values, case, 6));
     answer_differs(case, a) | changed(&values, case, 6) | !ends_with(case, 6)
 }
 

@@ -10,10 +10,9 @@ ghost use Rattle.walk.specs.Barred.{barred_by};
 ghost use Rattle.walk.specs.inner.Rows.{SeenAt, PlacedAt, RowLaid, AllWalkable, RowsLaid};
 ghost use Rattle.walk.specs.inner.Path.{Decodable, Found};
 
-pub use emission::Bar;
-
 use best_path::back::{close, last_state, trace};
 use best_path::row::lay_row;
+pub use emission::Bar;
 use emission::lay_barred;
 use model::Lent;
 
@@ -59,16 +58,7 @@ pub fn rows(lent: &Lent, bar: Option<Bar>, values: &mut [f64], from: &mut [u8])
     let mut source = 0;
     let mut target = 0;
     for t in 0..lent.samples.len() {
-        lay_sample(
-            lent,
-            bar,
-            t,
-            source,
-            target,
-            &mut emissions,
-            values,
-            from,
-        );
+        lay_sample(lent, bar, t, source, target, &mut emissions, values, from);
         source = target;
         target += states;
     }

@@ -1,6 +1,6 @@
 -- `baum_welch::check` meets its contract: the two parts of the checks, with the needed lengths between.
 use Rattle.std.proofs.Common.{◌≡◌, ◌*◌, ◌≤◌, sym, true, arith}
-use Rattle.std.specs.Prelude.{Result, Ok}
+use Rattle.std.specs.Prelude.{Ok}
 use Rattle.std.proofs.lemmas.Result.{err_from_is_err_and}
 use native.Mathlib.Nat.{mul-le-mul}
 use Rattle.answer.specs.Checks.{first_fault}

@@ -1,5 +1,5 @@
 -- `likelihood::answer_of` meets its contract: what the checks let through can be walked, or has no sample.
-use Rattle.std.proofs.Common.{◌≡◌, true, not, length, ap, ◌∙◌, arith}
+use Rattle.std.proofs.Common.{not, ap, ◌∙◌, arith}
 use Rattle.std.proofs.lemmas.Bool.Decides.{nat_tests}
 use Rattle.answer.specs.Answer.{done}
 use Rattle.model.specs.Lent.{behind}

@@ -1,14 +1,12 @@
 -- `rival::rival` meets its contract, in each of the three ways in which it returns.
-use mathlib.Core.Path.{refl, sym, ap, ◌∙◌}
+use mathlib.Core.Path.{refl, sym, ◌∙◌}
 use mathlib.Core.Bool.{false}
 use native.Mathlib.Omega.{arith}
-use Rattle.answer.specs.Answer.{is_done}
 use Rattle.model.specs.Lent.{behind}
 use Rattle.checks.specs.LetThrough.{LetThrough}
 use Rattle.checks.proofs.Done.{let_through}
 use Rattle.checks.proofs.Parts.{is_passed}
 use Rattle.rival.specs.Call.{asked, outputs, rooms}
-use Rattle.rival.specs.inner.Parts.{nothing_told}
 use Rattle.rival.proofs.Outcome.{is_refused, is_told, some_sample_lem, is_found}
 use Rattle.rival.proofs.rival.Goals as goal
 

@@ -1,5 +1,5 @@
 -- `viterbi::viterbi` meets its contract, in each of the three ways in which it returns.
-use Rattle.std.proofs.Common.{◌≡◌, ℕ, false, ap, sym, ◌∙◌, arith, rules}
+use Rattle.std.proofs.Common.{◌≡◌, false, ap, ◌∙◌, rules}
 use Rattle.answer.specs.Answer.{done}
 use Rattle.model.specs.Lent.{T, behind}
 use Rattle.checks.specs.LetThrough.{LetThrough}

@@ -1,4 +1,4 @@
-use Rattle.std.proofs.Common.{◌≡◌, ℕ, ◌+◌, ◌-◌, ◌<◌, ◌≤◌, List, length, get_or, take, refl, sym, ap, subst, ◌∙◌, arith}
+use Rattle.std.proofs.Common.{◌≡◌, ℕ, ◌+◌, ◌-◌, ◌<◌, List, get_or, take, refl, ap, subst, ◌∙◌, arith}
 use Rattle.std.specs.Prelude.{Float}
 use native.Mathlib.Nat.{not-suc-le-zero}
 use Rattle.lists.specs.Lists.{tab, over}

@@ -1,5 +1,5 @@
 -- `rival::preview::carry` meets its contract. The loop's invariant: the row before stands at the front, and the origins are its states'.
-use Rattle.std.proofs.Common.{◌≡◌, ℕ, ◌-◌, ◌<◌, length, take}
+use Rattle.std.proofs.Common.{◌≡◌, ◌-◌, ◌<◌, length, take}
 use Rattle.lists.specs.Lists.{tab}
 use Rattle.model.specs.Lent.{behind}
 use Rattle.model.specs.Model.{model_of}

@@ -1,7 +1,7 @@
 -- `rival::preview::preview` meets its contract: the state that is asked for is the origin of the last one.
-use Rattle.std.proofs.Common.{◌≡◌, ℕ, ◌-◌, ◌<◌, ◌∙◌, length, arith}
+use Rattle.std.proofs.Common.{◌≡◌, ℕ, ◌-◌, ◌<◌, ◌∙◌, arith}
 use Rattle.lists.proofs.Over.{length_tab}
-use Rattle.model.specs.Lent.{Lent, T, behind}
+use Rattle.model.specs.Lent.{T, behind}
 use Rattle.model.specs.Model.{Model, model_of}
 use Rattle.best_path.specs.Walk.{last_state}
 use Rattle.best_path.proofs.States.{last_below_lem}
