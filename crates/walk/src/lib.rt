@@ -56,11 +56,10 @@ pub fn rows(lent: &Lent, bar: Option<Bar>, values: &mut [f64], from: &mut [u8])
     let states = lent.tables.shape.states;
     let mut emissions = [0.0; 64];
     let mut source = 0;
-    let mut target = 0;
     for t in 0..lent.samples.len() {
+        let target = t * states;
         lay_sample(lent, bar, t, source, target, &mut emissions, values, from);
         source = target;
-        target += states;
     }
 }
 

@@ -1,5 +1,5 @@
--- `walk::rows` meets its contract. The loop's invariant, `Whole`: the first t rows are laid over each table, and `source` and `target` are
--- where the last of them and the next one stand.
+-- `walk::rows` meets its contract. The loop's invariant, `Whole`: the first t rows are laid over each table, and `source` is where
+-- the last of them stands.
 use Rattle.std.proofs.Common.{◌≡◌, ℕ, ◌*◌, ◌-◌, Bool, length}
 use Rattle.std.specs.Prelude.{Float}
 use Rattle.lists.proofs.Whole.{Whole}
@@ -12,9 +12,9 @@ use Rattle.walk.proofs.rows.Given as goal
 
 abbrev pub invariant-loop-t : goal.invariant-loop-t
 invariant-loop-t l = let g = behind l.lent in
-    (l.target ≡ l.t * S g) × (l.source ≡ (l.t - 1) * S g) × (length l.emissions ≡ 64)
+    (l.source ≡ (l.t - 1) * S g) × (length l.emissions ≡ 64)
     × (length l.values ≡ length l.initial.values) × (length l.from ≡ length l.initial.from)
     × ((ends : Bool) (end : ℕ → Float) →
     let m = tabled (S g) g.tables.transition g.tables.initial (barring_by l.bar (emissions_of g)) ends end in
-    Whole (T g) (S g) (Walk.value m) l.initial.values l.values l.t l.target
-    × Whole (T g) (S g) (Walk.from m) l.initial.from l.from l.t l.target)
+    Whole (T g) (S g) (Walk.value m) l.initial.values l.values l.t (l.t * S g)
+    × Whole (T g) (S g) (Walk.from m) l.initial.from l.from l.t (l.t * S g))
