@@ -101,7 +101,7 @@ fn sum_others<F: Fn(usize) -> f64>(n: usize, term: &F, best: Peak) -> f64
 
 // The sum of n terms before its logarithm is taken, where term gives the one at a place.
 #[tactic(auto, unfolding(crate::specs::inner::Open::opened))]
-pub fn open_sum_by<F: Fn(usize) -> f64>(n: usize, term: F) -> Open
+fn open_sum_by<F: Fn(usize) -> f64>(n: usize, term: F) -> Open
     requires { HasTerms F.Fn n term }
     ensures { (f : ℕ → Float) → TermsAre F.Fn n term f → result ≡ opened n f }
 {
