@@ -1,4 +1,6 @@
 // The calls of the frozen list.
+use std::fmt;
+
 #[derive(Clone, Copy)]
 pub enum Call {
     Viterbi,
@@ -51,10 +53,10 @@ pub const CALLS: [Call; 22] = [
     Call::Rival,
 ];
 
-impl Call {
-    // The name that the library gives it.
-    pub fn name(self) -> &'static str {
-        match self {
+// The name that the library gives it.
+impl fmt::Display for Call {
+    fn fmt<W: fmt::Write>(&self, f: &mut fmt::Formatter<W>) -> fmt::Result {
+        f.pad(match self {
             Call::Viterbi => "viterbi",
             Call::Forward => "forward",
             Call::Backward => "backward",
@@ -77,6 +79,6 @@ impl Call {
             Call::WriteModel => "write_model",
             Call::FileLength => "file_length",
             Call::Rival => "rival",
-        }
+        })
     }
 }

@@ -9,8 +9,7 @@ pub fn print(rt: &impl Print, counts: &[u64; KINDS]) -> io::Result<()> {
         let written = 2 * number;
         let altered = 128 + 2 * number;
         println!(rt;
-            "{:<24} {} same, {} differ; altered: {} same, {} differ",
-            call.name(),
+            "{call:<24} {} same, {} differ; altered: {} same, {} differ",
             counts[written],
             counts[written + 1],
             counts[altered],
