@@ -232,6 +232,8 @@ of_check_results_lem =
       first_bad_sample = λ symbols samples. one _;
       check_samples = λ symbols samples. one _;
       check_sizes = λ needs_sample shape transition emission initial end samples. one _;
+      room_of = λ needed lent. one _;
+      check_lengths = λ needs_sample l. one _;
       check_rest = λ l outputs. one _;
     }
 
@@ -260,6 +262,8 @@ of_walk_lem : OfWalk
 of_walk_lem =
     record {
       rows = λ states symbols transition emission initial samples index state values from x y p q.
+          stored 0 _ _ values from x y (p false (λ (j : ℕ). nought)) (q false (λ (j : ℕ). nought));
+      rows_barred = λ l bar values from x y p q.
           stored 0 _ _ values from x y (p false (λ (j : ℕ). nought)) (q false (λ (j : ℕ). nought));
       decode = λ l index state path values from. found_one _ _ path values from;
       decode_barred = λ l bar path values from. found_one _ _ path values from;

@@ -1,6 +1,7 @@
 -- That a promise leaves one result (RULES 8.2): two results that meet it are equal. There is a line for each public function, by its name in
 -- the code and with the promise of its contract; one that writes memory gives what its outputs hold at the end. What a function asks of its
--- caller is not needed for it. The inner functions that promise less than one result are listed in docs/LOOSE.md.
+-- caller is not needed for it. Lines beyond these state the same of the answer or the lists alone, as in `OfChecks`. The inner functions
+-- that promise less than one result are listed in docs/LOOSE.md.
 use Rattle.std.specs.Prelude.{ℕ, ◌-◌, ◌*◌, ◌/◌, ◌%◌, ◌^◌, ◌<◌, ◌≡◌, Bool, ◌||◌, List, length, get_or, Float, not, Option, Result}
 use Rattle.std.specs.List.{position}
 use Rattle.floats.specs.Float as Float
@@ -33,9 +34,9 @@ use Rattle.model.specs.Good.{good, good_end, good_bits}
 use Rattle.model.specs.inner.Marks.{is_set}
 use Rattle.model.specs.Model.{emission_of, model_of}
 use Rattle.checks.specs.declared.Room.{Room}
-use Rattle.checks.specs.Rooms.{rooms_of}
+use Rattle.checks.specs.Rooms.{room, rooms_of}
 use Rattle.checks.specs.Checks.{shape_tests, count_tests, room_tests, entry_tests, is_symbol, sample_tests}
-use Rattle.checks.specs.inner.Parts.{sizes_of, rest_tests}
+use Rattle.checks.specs.inner.Parts.{sizes_of, size_tests, rest_tests}
 use Rattle.emission.specs.declared.Bar.{Bar}
 use Rattle.emission.specs.Barring.{barring, barring_by}
 use Rattle.emission.specs.inner.Row.{emissions_of, first_row}
@@ -45,7 +46,7 @@ use Rattle.best_path.specs.inner.Back.{from_at}
 use Rattle.best_path.specs.inner.Step.{Stepped}
 use Rattle.best_path.specs.inner.Row.{first_from}
 use Rattle.walk.specs.Barred.{barred, barred_by}
-use Rattle.walk.specs.inner.Rows.{RowsStored}
+use Rattle.walk.specs.inner.Rows.{RowsStored, RowsLaid}
 use Rattle.walk.specs.inner.Path.{Found}
 use Rattle.viterbi.specs.Call.{Outputs, Decoded}
 use Rattle.rival.specs.declared.Rivalry.{Rivalry}
@@ -169,6 +170,8 @@ pub record OfCheckResults : Type 0 where
   pub check_samples : (symbols : ℕ) (samples : List ℕ) → Unique (λ (r : Result Unit Answer). r ≡ first_fault (sample_tests symbols samples))
   pub check_sizes : (needs_sample : Bool) (shape : Shape) (transition emission initial end samples : ℕ)
       → Unique (λ (r : Result Unit Answer). r ≡ first_fault (sizes_of needs_sample shape transition emission initial end samples))
+  pub room_of : (needed lent : ℕ) → Unique (λ (r : Room). r ≡ room needed lent)
+  pub check_lengths : (needs_sample : Bool) (l : Lent) → Unique (λ (r : Result Unit Answer). r ≡ first_fault (size_tests needs_sample l))
   pub check_rest : (l : Lent) (outputs : List Room) → Unique (λ (r : Result Unit Answer). r ≡ first_fault (rest_tests outputs l))
 
 pub record OfEmission : Type 0 where
@@ -200,6 +203,8 @@ pub record OfWalk : Type 0 where
       (values : List Float) (from : List ℕ)
       → Unique (λ (e : List Float × List ℕ).
       RowsStored states transition initial (barring index state (emission_of symbols emission samples)) (length samples) values e.0 from e.1)
+  pub rows_barred : (l : Lent) (bar : Option Bar) (values : List Float) (from : List ℕ)
+      → Unique (λ (e : List Float × List ℕ). RowsLaid l bar values e.0 from e.1)
   pub decode : (l : Lent) (index state : ℕ) (path : List ℕ) (values : List Float) (from : List ℕ)
       → Unique (λ (e : Float × List ℕ × List Float × List ℕ).
       Found (barred index state (model_of l)) (T l) e.0 path e.1 values e.2 from e.3)

@@ -50,17 +50,21 @@ fn ended(input: &mut impl Read) -> io::Result<bool> {
     Ok(read_full(input, &mut after)? == 0)
 }
 
+// Replays so many cases and counts them by their kinds; whether the input has all of them.
+fn count_cases(input: &mut impl Read, count: u64, counts: &mut [u64; KINDS]) -> io::Result<bool> {
+    for _ in 0..count {
+        let Some(kind) = replay_next(input)? else {
+            return Ok(false);
+        };
+        tally::add(counts, kind);
+    }
+    Ok(true)
+}
+
 // Replays so many cases and prints what they came to.
 fn replay(rt: &impl Print, input: &mut impl Read, count: u64) -> io::Result<()> {
     let mut counts = [0; KINDS];
-    let mut whole = true;
-    for _ in 0..count {
-        let Some(kind) = replay_next(input)? else {
-            whole = false;
-            break;
-        };
-        tally::add(&mut counts, kind);
-    }
+    let whole = count_cases(input, count, &mut counts)?;
     report::print(rt, &counts)?;
     if !whole || !ended(input)? {
         println!(rt; "the list is not whole")?;

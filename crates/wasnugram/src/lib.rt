@@ -76,7 +76,7 @@ fn flat_shape(shape: Shape) -> WasnugramShape
     WasnugramShape {
         states: shape.states,
         symbols: shape.symbols,
-        ends: shape.ends as u8,
+        ends: u8::from(shape.ends),
     }
 }
 
