@@ -1,6 +1,4 @@
 // The calls of the frozen list.
-use std::fmt;
-
 #[derive(Clone, Copy)]
 pub enum Call {
     Viterbi,
@@ -52,33 +50,3 @@ pub const CALLS: [Call; 22] = [
     Call::FileLength,
     Call::Rival,
 ];
-
-// The name that the library gives it.
-impl fmt::Display for Call {
-    fn fmt<W: fmt::Write>(&self, f: &mut fmt::Formatter<W>) -> fmt::Result {
-        f.pad(match self {
-            Call::Viterbi => "viterbi",
-            Call::Forward => "forward",
-            Call::Backward => "backward",
-            Call::BaumWelch => "baum_welch",
-            Call::Exp => "exp",
-            Call::Ln => "ln",
-            Call::LnOneMinusExp => "ln_one_minus_exp",
-            Call::LnSumExp => "ln_sum_exp",
-            Call::LnAddExp => "ln_add_exp",
-            Call::LnSubExp => "ln_sub_exp",
-            Call::LnCumsumExp => "ln_cumsum_exp",
-            Call::CapNumericalOvershoot => "cap_numerical_overshoot",
-            Call::IsValid => "is_valid",
-            Call::ProbChecked => "Prob::checked",
-            Call::LogProbFromProb => "LogProb::from_prob",
-            Call::ProbFromLogProb => "Prob::from_log_prob",
-            Call::PhredProbFromLogProb => "PHREDProb::from_log_prob",
-            Call::LogProbFromPhredProb => "LogProb::from_phred_prob",
-            Call::ReadModel => "read_model",
-            Call::WriteModel => "write_model",
-            Call::FileLength => "file_length",
-            Call::Rival => "rival",
-        })
-    }
-}

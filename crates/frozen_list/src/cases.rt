@@ -9,12 +9,18 @@ ghost use Rattle.program_io.specs.Words.{word_at};
 use crate::calls::{CALLS, Call};
 use program_io::words::{FromWord, word_at};
 
-// The case's call, whether or not it is altered; none where no call has that number.
-pub fn call_of(case: &[u64]) -> Option<Call>
-    ensures { result ≡ slice_get CALLS (word_at case.now 0 % 64) }
+// The number of the case's call, whether or not it is altered.
+pub fn call_of(case: &[u64]) -> u64
+    ensures { result ≡ word_at case.now 0 % 64 }
 {
-    let number = (word_at(case, 0) % 64) as usize;
-    CALLS.get(number).copied()
+    word_at(case, 0) % 64
+}
+
+// The call that has this number; none where no call has it.
+pub fn call_at(number: u64) -> Option<Call>
+    ensures { result ≡ slice_get CALLS number }
+{
+    CALLS.get(number as usize).copied()
 }
 
 // Where a list begins and ends.

@@ -16,7 +16,7 @@ use Rattle.model.specs.Good.{good_bits}
 use Rattle.file_layout.specs.Checks.{file_tests, layout_tests, read_rooms, read_tests, sum_tests, word_test, word_tests}
 use Rattle.file_layout.specs.Layout.{count, size}
 use Rattle.file_layout.specs.Reading.{body_at, body_of, end_at, end_of, floats, shape_of}
-use Rattle.model_file.specs.Call.{Outputs, read_check, Read}
+use Rattle.model_file.specs.Call.{Outputs, no_shape, read_check, Read}
 use Rattle.model_file.specs.inner.Laying.{Laying, LayingEnd}
 use Rattle.file_layout.specs.inner.Whole.{Whole}
 use Rattle.file_layout.proofs.Accepting.{file_refuses, laid, tab_clear, tab_refuses}
@@ -173,6 +173,22 @@ own_table sh f own i l cur e = e ∙ ap (λ (s : Shape). over 0 (floats (body_at
 own_end : (sh : Shape) (f : List ℕ) → sh ≡ shape_of f → (l cur : List Float) → cur ≡ over 0 (end_at sh f) l → cur ≡ over 0 (end_of f) l
 own_end sh f own l cur e = e ∙ ap (λ (s : Shape). over 0 (end_at s f) l) own
 
+-- ---- the two ways in which a reader ends: refused, all stays
+pub is_refused : (f : List ℕ) (o : Outputs) {x : Answer} (sh : Shape)
+    → Err x ≡ first_fault (read_tests f (length o.transition) (length o.emission) (length o.initial) (length o.end)) → sh ≡ no_shape
+    → Read f o (record { answer = x; shape = sh }) o
+is_refused f o sh e s =
+    let stopped : is_done (read_check f o) ≡ false = read_refused f _ _ _ _ e in
+    record {
+      answer = rw stopped (read_refusal f _ _ _ _ e);
+      shape = rw stopped s;
+      transition = rw stopped;
+      emission = rw stopped;
+      initial = rw stopped;
+      end = rw stopped;
+    }
+
+-- done, each table is laid over the front of its output
 pub is_read : (f : List ℕ) (o : Outputs) (r : Answer) (sh : Shape) (e : Outputs) → is_done (read_check f o) ≡ true → r ≡ done nought
     → sh ≡ shape_of f → e.transition ≡ over 0 (floats (body_at sh f 0)) o.transition → e.emission ≡ over 0 (floats (body_at sh f 1)) o.emission
     → e.initial ≡ over 0 (floats (body_at sh f 2)) o.initial → e.end ≡ over 0 (end_at sh f) o.end

@@ -2,11 +2,18 @@
 ghost use Rattle.std.specs.Prelude.{◌≡◌, ℕ, ◌%◌, ◌≤◌, IfOk, OnErr, length};
 ghost use Rattle.std.specs.Float.Ieee.{of_bits};
 ghost use Rattle.std.specs.Float.{binary64};
-ghost use Rattle.program_io.specs.Words.{word_at};
+ghost use Rattle.program_io.specs.Words.{word_of, word_at};
 
 use std::io;
 use std::io::Read;
 use std::num::f64_from_bits_with_nan;
+
+// The word of these bytes, from the lowest up.
+fn word(bytes: &[u8; 8]) -> u64
+    ensures { result ≡ word_of bytes.now }
+{
+    u64::from_le_bytes(*bytes)
+}
 
 // Reads until the buffer is full or the input ends, and how many bytes are then in its front. A failed read is returned: what was read by
 // then stands in the front, and the buffer is as long as it was.
@@ -36,7 +43,7 @@ pub fn read_words(input: &mut impl Read, into: &mut [u64]) -> io::Result<usize>
         if read_full(input, &mut bytes)? < bytes.len() {
             return Ok(i);
         }
-        into[i] = u64::from_le_bytes(bytes);
+        into[i] = word(&bytes);
     }
     Ok(into.len())
 }

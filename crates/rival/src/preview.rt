@@ -1,6 +1,6 @@
 // A walk that leaves no rows: the best path's value and the state that it has at one sample, in local memory of 64 places. Beside the row
 // it carries each state's origin, the state that the best path to it has at that sample.
-ghost use Rattle.std.specs.Prelude.{◌≡◌, ◌<◌, Option, get_or};
+ghost use Rattle.std.specs.Prelude.{◌≡◌, ◌<◌, Option, length, get_or};
 ghost use Rattle.lists.specs.Lists.{tab, over};
 ghost use Rattle.model.specs.Lent.{T, behind};
 ghost use Rattle.model.specs.Model.{model_of};
@@ -61,23 +61,30 @@ struct Carried {
     origins: [u8; 64],
 }
 
-// What the walk carries at its end, over one sample or more.
-fn carry(lent: &Lent, bar: Option<Bar>, index: usize) -> Carried
+// Carries that through all samples, one or more. It is written where it is lent, since a value that is handed back is copied on the stack.
+fn carry(lent: &Lent, bar: Option<Bar>, index: usize, carried: &mut Carried)
     requires accepted { Accepted (behind lent.now) }
     requires some_sample { 0 < T (behind lent.now) }
-    ensures { CarriedTo (barred_by bar (model_of (behind lent.now))) (T (behind lent.now)) index result }
+    requires sized { (length carried.old.row ≡ 64) × (length carried.old.origins ≡ 64) }
+    ensures { CarriedTo (barred_by bar (model_of (behind lent.now))) (T (behind lent.now)) index carried.new }
 {
     let states = lent.tables.shape.states;
     let mut emissions = [0.0; 64];
-    let mut row = [0.0; 64];
     let mut from = [0u8; 64];
-    let mut origins = [0u8; 64];
     for t in 0..lent.samples.len() {
-        lay_sample(lent, bar, t, 0, 0, &mut emissions, &mut row, &mut from);
-        let before = origins;
-        lay_origins(states, t, index, &from, &before, &mut origins);
+        lay_sample(
+            lent,
+            bar,
+            t,
+            0,
+            0,
+            &mut emissions,
+            &mut carried.row,
+            &mut from,
+        );
+        let before = carried.origins;
+        lay_origins(states, t, index, &from, &before, &mut carried.origins);
     }
-    Carried { row, origins }
 }
 
 // The walk over one sample or more, where a state is barred at one of them, or none, asked for its state at the sample `index`. The caller
@@ -87,7 +94,11 @@ pub fn preview(lent: &Lent, bar: Option<Bar>, index: usize) -> Outlook
     requires index_in_bounds { index < T (behind lent.now) }
     ensures { result ≡ previewed (barred_by bar (model_of (behind lent.now))) (T (behind lent.now)) index }
 {
-    let carried = carry(lent, bar, index);
+    let mut carried = Carried {
+        row: [0.0; 64],
+        origins: [0; 64],
+    };
+    carry(lent, bar, index, &mut carried);
     let tables = lent.tables;
     let shape = tables.shape;
     let row = &carried.row[..shape.states];

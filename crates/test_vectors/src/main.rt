@@ -12,7 +12,7 @@ mod files;
 mod report;
 mod walks;
 
-use frozen_list::cases::call_of;
+use frozen_list::cases::{call_at, call_of};
 use frozen_list::tally;
 use frozen_list::tally::KINDS;
 use program_io::words::{read_full, read_words};
@@ -26,7 +26,7 @@ fn replay_case(input: &mut impl Read, space: &mut [u64]) -> io::Result<Option<us
     if read_words(input, space)? < space.len() {
         return Ok(None);
     }
-    match call_of(space) {
+    match call_at(call_of(space)) {
         Some(call) => Ok(tally::kind(space, cases::differs(space, call))),
         None => Ok(None),
     }

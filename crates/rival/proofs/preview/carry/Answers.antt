@@ -25,7 +25,7 @@ at_end m index n t row origins e h =
     subst (λ (k : ℕ). (take m.states row ≡ tab m.states (value m (k - 1))) × Origins m index (k - 1) origins) e h
 
 pub loop-t-init : goal.loop-t-init
-loop-t-init c = (refl, refl, refl, refl, λ h. absurd (not-suc-le-zero h))
+loop-t-init c = (refl, c.requires.sized.0, refl, c.requires.sized.1, λ h. absurd (not-suc-le-zero h))
 
 pub lay_sample-requires : goal.lay_sample-requires
 lay_sample-requires c =
@@ -93,5 +93,5 @@ returns c =
     let m = barred_by c.args.bar (model_of (behind c.args.lent.now)) in
     let n = T (behind c.args.lent.now) in
     let all : l.t ≡ n = omega arith in
-    let done = at_end m c.args.index n l.t l.row l.origins all (l.invariant.4 (omega (arith, all, c.requires.some_sample))) in
+    let done = at_end m c.args.index n l.t l.carried.row l.carried.origins all (l.invariant.4 (omega (arith, all, c.requires.some_sample))) in
     record { row_length = l.invariant.1; origins_length = l.invariant.3; row = done.0; origins = done.1 }

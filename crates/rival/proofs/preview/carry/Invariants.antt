@@ -10,6 +10,6 @@ use Rattle.rival.proofs.preview.carry.Given as goal
 
 abbrev pub invariant-loop-t : goal.invariant-loop-t
 invariant-loop-t l =
-    (length l.emissions ≡ 64) × (length l.row ≡ 64) × (length l.from ≡ 64) × (length l.origins ≡ 64)
+    (length l.emissions ≡ 64) × (length l.carried.row ≡ 64) × (length l.from ≡ 64) × (length l.carried.origins ≡ 64)
     × (let m = barred_by l.bar (model_of (behind l.lent)) in
-    0 < l.t → (take m.states l.row ≡ tab m.states (value m (l.t - 1))) × Origins m l.index (l.t - 1) l.origins)
+    0 < l.t → (take m.states l.carried.row ≡ tab m.states (value m (l.t - 1))) × Origins m l.index (l.t - 1) l.carried.origins)

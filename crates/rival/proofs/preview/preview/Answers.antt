@@ -20,7 +20,7 @@ close-requires c =
     let m = barred_by c.args.bar (model_of g) in
     let tables = c.requires.accepted.tables in
     let some = tables.in_range.some_state in
-    let carried = c.carry-carried.ensures in
+    let carried = c.carry.ensures in
     let is = last_found m (T g) some (omega (arith, c.requires.index_in_bounds)) _ carried.row _ c.last_state-last.ensures in
     let below = is_state m (T g) _ some is in
     rw (carried.row, length_tab) (omega (arith, below, tables.end_length), below)
@@ -30,7 +30,7 @@ bounds-carried-last c =
     let g = behind c.args.lent.now in
     let m = barred_by c.args.bar (model_of g) in
     let range = c.requires.accepted.tables.in_range in
-    let is = last_found m (T g) range.some_state (omega (arith, c.requires.index_in_bounds)) _ c.carry-carried.ensures.row _ c.last_state-last.ensures in
+    let is = last_found m (T g) range.some_state (omega (arith, c.requires.index_in_bounds)) _ c.carry.ensures.row _ c.last_state-last.ensures in
     omega (arith, range.few_states, is_state m (T g) _ range.some_state is)
 
 pub returns : goal.returns
@@ -39,7 +39,7 @@ returns c =
     let m = barred_by c.args.bar (model_of g) in
     let some = c.requires.accepted.tables.in_range.some_state in
     let sample : 0 < T g = omega (arith, c.requires.index_in_bounds) in
-    let carried = c.carry-carried.ensures in
+    let carried = c.carry.ensures in
     let is = last_found m (T g) some sample _ carried.row _ c.last_state-last.ensures in
     let v = c.close.ensures ∙ value_found m (T g) some sample _ carried.row c.last_state-last.result is in
     let k = origin_found m c.args.index (T g) _ some c.requires.index_in_bounds carried.origins c.last_state-last.result is in
