@@ -27,10 +27,11 @@ pub(crate) fn weigh(pass: &Pass) -> Result<[Mass; 64], Answer>
         gamma: 0.0,
         denominator: 0.0,
     };
+    let rows = pass.rows();
     let mut masses = [none; 64];
     for i in 0..states {
-        let gamma = gamma(pass, i);
-        let denominator = denominator(pass, i, gamma);
+        let gamma = gamma(&rows, i);
+        let denominator = denominator(&rows, i, gamma);
         if is_massless(gamma, denominator) {
             return Err(refused(Refusal::ZeroMass, 0, i));
         }

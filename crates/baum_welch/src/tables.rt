@@ -3,15 +3,15 @@ ghost use Rattle.std.specs.Prelude.{◌≡◌, ◌+◌, ◌*◌, ◌<◌, ◌≤
 ghost use Rattle.lists.specs.Lists.{tab, over};
 ghost use Rattle.model.specs.Lent.{S, M};
 ghost use Rattle.occupancy.specs.Occupancy as Occupancy;
-ghost use Rattle.occupancy.specs.inner.Rows.{lent_of, rows_of, Standing, Known, Readable};
+ghost use Rattle.occupancy.specs.inner.Rows.{walks_in, RowsStand, lent_of, Standing, Known, Readable};
 ghost use Rattle.baum_welch.specs.Pass as Spec;
-ghost use Rattle.baum_welch.specs.inner.Tables.{shape_of, shares_of, Masses, new_tables};
+ghost use Rattle.baum_welch.specs.inner.Tables.{shares_of, Masses, new_tables};
 
 use crate::mass::Mass;
-use occupancy::Pass;
 use occupancy::arc::arc_sums;
 use occupancy::state::occupancy;
 use occupancy::symbol::emission_sums;
+use occupancy::{Pass, Rows};
 
 // What is stored of a result: one above 0 is stored as 0.0.
 #[tactic(auto, unfolding(crate::specs::Pass::at_most_zero))]
@@ -67,22 +67,23 @@ pub(crate) fn initials(pass: &Pass, out: &mut [f64])
     requires { Standing pass.now × (S (lent_of pass.now) ≤ length out.old) }
     ensures { out.new ≡ over 0 (new_tables pass.now).initial out.old }
 {
-    for i in 0..pass.lent.tables.shape.states {
-        out[i] = at_most_zero(occupancy(pass, i, 0));
+    let rows = pass.rows();
+    for i in 0..rows.shape.states {
+        out[i] = at_most_zero(occupancy(&rows, i, 0));
     }
 }
 
 // The new end of state i, where gamma is its own.
 #[tactic(auto, unfolding(crate::specs::Pass::new_end))]
-fn new_end(pass: &Pass, i: usize, gamma: f64) -> f64
-    requires standing { Standing pass.now × (i < S (lent_of pass.now)) }
-    requires gamma_value { gamma ≡ Occupancy.gamma (rows_of pass.now) i }
-    ensures { result ≡ Spec.new_end (rows_of pass.now) (shape_of pass.now).ends i }
+fn new_end(rows: &Rows, i: usize, gamma: f64) -> f64
+    requires standing { RowsStand rows.now × (i < rows.now.shape.states) }
+    requires gamma_value { gamma ≡ Occupancy.gamma (walks_in rows.now) i }
+    ensures { result ≡ Spec.new_end (walks_in rows.now) rows.now.shape.ends i }
 {
-    if !pass.lent.tables.shape.ends {
+    if !rows.shape.ends {
         return 0.0;
     }
-    at_most_zero(occupancy(pass, i, pass.lent.samples.len() - 1) - gamma)
+    at_most_zero(occupancy(rows, i, rows.samples - 1) - gamma)
 }
 
 // The new end table.
@@ -92,7 +93,8 @@ pub(crate) fn ends(pass: &Pass, masses: &[Mass], out: &mut [f64])
     requires holds { Masses (S (lent_of pass.now)) pass.now masses.now }
     ensures { out.new ≡ over 0 (new_tables pass.now).end out.old }
 {
-    for i in 0..pass.lent.tables.shape.states {
-        out[i] = new_end(pass, i, masses[i].gamma);
+    let rows = pass.rows();
+    for i in 0..rows.shape.states {
+        out[i] = new_end(&rows, i, masses[i].gamma);
     }
 }

@@ -7,7 +7,20 @@ pub mod arc;
 pub mod state;
 pub mod symbol;
 
-use model::Lent;
+ghost use Rattle.std.specs.Prelude.{◌≡◌};
+ghost use Rattle.occupancy.specs.inner.Rows.{rows_in};
+
+use model::{Lent, Shape};
+
+// The rows of both walks and what is known of them: the shape, how many samples there were, and the likelihood of them all.
+#[derive(Clone, Copy)]
+pub struct Rows<'a> {
+    pub shape: Shape,
+    pub samples: usize,
+    pub alpha: &'a [f64],
+    pub beta: &'a [f64],
+    pub probx: f64,
+}
 
 // One pass: what it is lent, the rows of both walks, and the likelihood of all samples.
 #[derive(Clone, Copy)]
@@ -16,4 +29,19 @@ pub struct Pass<'a> {
     pub alpha: &'a [f64],
     pub beta: &'a [f64],
     pub probx: f64,
+}
+
+impl<'a> Pass<'a> {
+    // The rows alone, for what reads neither the tables nor the samples.
+    pub fn rows(&self) -> Rows<'a>
+        ensures { result ≡ rows_in self.now }
+    {
+        Rows {
+            shape: self.lent.tables.shape,
+            samples: self.lent.samples.len(),
+            alpha: self.alpha,
+            beta: self.beta,
+            probx: self.probx,
+        }
+    }
 }

@@ -1,11 +1,10 @@
 // How much of the time a state is occupied: what its emissions, its arcs and its end are measured by.
 ghost use Rattle.std.specs.Prelude.{◌≡◌, ◌||◌, ◌<◌};
 ghost use Rattle.floats.specs.Float.{is_minus_infinity};
-ghost use Rattle.model.specs.Lent.{S, T};
 ghost use Rattle.occupancy.specs.Occupancy as Spec;
-ghost use Rattle.occupancy.specs.inner.Rows.{lent_of, rows_of, Standing};
+ghost use Rattle.occupancy.specs.inner.Rows.{walks_in, RowsStand};
 
-use crate::Pass;
+use crate::Rows;
 use floats::is_minus_infinity;
 use model::entry;
 use sums::pair::ln_sub;
@@ -13,35 +12,35 @@ use sums::sum::ln_sum_by;
 
 // The occupancy of state i at time t. The caller shows that both walks have a row for each sample.
 #[tactic(auto, using(lists::proofs::Places::within_rows), unfolding(crate::specs::Occupancy::occupancy))]
-pub fn occupancy(pass: &Pass, i: usize, t: usize) -> f64
-    requires { Standing pass.now × (i < S (lent_of pass.now)) × (t < T (lent_of pass.now)) }
-    ensures { result ≡ Spec.occupancy (rows_of pass.now) i t }
+pub fn occupancy(rows: &Rows, i: usize, t: usize) -> f64
+    requires { RowsStand rows.now × (i < rows.now.shape.states) × (t < rows.now.samples) }
+    ensures { result ≡ Spec.occupancy (walks_in rows.now) i t }
 {
-    let states = pass.lent.tables.shape.states;
-    let back = pass.lent.samples.len() - 1 - t;
-    (entry(pass.alpha, t * states + i) + entry(pass.beta, back * states + i)) - pass.probx
+    let states = rows.shape.states;
+    let back = rows.samples - 1 - t;
+    (entry(rows.alpha, t * states + i) + entry(rows.beta, back * states + i)) - rows.probx
 }
 
 // The sum of the occupancies of state i over time. The caller shows that both walks have a row for each sample.
 #[tactic(auto, unfolding(crate::specs::Occupancy::gamma))]
-pub fn gamma(pass: &Pass, i: usize) -> f64
-    requires { Standing pass.now × (i < S (lent_of pass.now)) }
-    ensures { result ≡ Spec.gamma (rows_of pass.now) i }
+pub fn gamma(rows: &Rows, i: usize) -> f64
+    requires { RowsStand rows.now × (i < rows.now.shape.states) }
+    ensures { result ≡ Spec.gamma (walks_in rows.now) i }
 {
-    ln_sum_by(pass.lent.samples.len(), |t| occupancy(pass, i, t))
+    ln_sum_by(rows.samples, |t| occupancy(rows, i, t))
 }
 
 // What the arcs out of state i are divided by. The caller shows that both walks have a row for each sample, and that gamma is the state's.
 #[tactic(auto, unfolding(crate::specs::Occupancy::denominator))]
-pub fn denominator(pass: &Pass, i: usize, gamma: f64) -> f64
-    requires standing { Standing pass.now × (i < S (lent_of pass.now)) }
-    requires gamma_value { gamma ≡ Spec.gamma (rows_of pass.now) i }
-    ensures { result ≡ Spec.denominator (lent_of pass.now).tables.shape.ends (rows_of pass.now) i }
+pub fn denominator(rows: &Rows, i: usize, gamma: f64) -> f64
+    requires standing { RowsStand rows.now × (i < rows.now.shape.states) }
+    requires gamma_value { gamma ≡ Spec.gamma (walks_in rows.now) i }
+    ensures { result ≡ Spec.denominator rows.now.shape.ends (walks_in rows.now) i }
 {
-    if pass.lent.tables.shape.ends {
+    if rows.shape.ends {
         return gamma;
     }
-    ln_sub(gamma, occupancy(pass, i, pass.lent.samples.len() - 1))
+    ln_sub(gamma, occupancy(rows, i, rows.samples - 1))
 }
 
 // Whether a state of this gamma and denominator has no mass.

@@ -16,10 +16,11 @@ pub fn emission_sums(pass: &Pass, i: usize) -> [f64; 256]
     ensures { Holds (M (lent_of pass.now))
         (λ (x : ℕ). emitted (rows_of pass.now) (lent_of pass.now).samples i x (T (lent_of pass.now))) result }
 {
+    let rows = pass.rows();
     let mut sums = [minus_infinity(); 256];
     for (t, x) in pass.lent.samples.iter().enumerate() {
         let x = *x as usize;
-        sums[x] = ln_add(sums[x], occupancy(pass, i, t));
+        sums[x] = ln_add(sums[x], occupancy(&rows, i, t));
     }
     sums
 }

@@ -272,9 +272,13 @@ of_walk_lem =
 of_occupancy_lem : OfOccupancy
 of_occupancy_lem =
     record {
-      occupancy = λ pass i t. one _;
-      gamma = λ pass i. one _;
-      denominator = λ pass i. one _;
+      rows = λ pass. one _;
+      occupancy = λ rows i t. one _;
+      gamma = λ rows i. one _;
+      denominator = λ rows i. one _;
+      occupancy_of_pass = λ pass i t. one _;
+      gamma_of_pass = λ pass i. one _;
+      denominator_of_pass = λ pass i. one _;
       is_massless = λ gamma denominator. one _;
     }
 

@@ -54,8 +54,9 @@ use Rattle.rival.specs.Call as Rival
 use Rattle.rival.specs.Call.{Asked, asked, Told}
 use Rattle.likelihood.specs.Call.{Forward, Backward}
 use Rattle.occupancy.specs.declared.Pass.{Pass}
+use Rattle.occupancy.specs.declared.Rows.{Rows}
 use Rattle.occupancy.specs.Occupancy as Occupancy
-use Rattle.occupancy.specs.inner.Rows.{lent_of, rows_of}
+use Rattle.occupancy.specs.inner.Rows.{walks_in, lent_of, rows_in, rows_of}
 use Rattle.baum_welch.specs.Call as BaumWelch
 use Rattle.baum_welch.specs.Call.{Trained}
 use Rattle.model_file.specs.declared.Reading.{Reading}
@@ -212,10 +213,15 @@ pub record OfWalk : Type 0 where
       → Unique (λ (e : Float × List ℕ × List Float × List ℕ).
       Found (barred_by bar (model_of l)) (T l) e.0 path e.1 values e.2 from e.3)
 
+-- of the rows of both walks, whatever their shape, their number and their entries, and of a pass by the rows that it holds
 pub record OfOccupancy : Type 0 where
-  pub occupancy : (pass : Pass) (i t : ℕ) → Unique (λ (r : Float). r ≡ Occupancy.occupancy (rows_of pass) i t)
-  pub gamma : (pass : Pass) (i : ℕ) → Unique (λ (r : Float). r ≡ Occupancy.gamma (rows_of pass) i)
-  pub denominator : (pass : Pass) (i : ℕ)
+  pub rows : (pass : Pass) → Unique (λ (r : Rows). r ≡ rows_in pass)
+  pub occupancy : (rows : Rows) (i t : ℕ) → Unique (λ (r : Float). r ≡ Occupancy.occupancy (walks_in rows) i t)
+  pub gamma : (rows : Rows) (i : ℕ) → Unique (λ (r : Float). r ≡ Occupancy.gamma (walks_in rows) i)
+  pub denominator : (rows : Rows) (i : ℕ) → Unique (λ (r : Float). r ≡ Occupancy.denominator rows.shape.ends (walks_in rows) i)
+  pub occupancy_of_pass : (pass : Pass) (i t : ℕ) → Unique (λ (r : Float). r ≡ Occupancy.occupancy (rows_of pass) i t)
+  pub gamma_of_pass : (pass : Pass) (i : ℕ) → Unique (λ (r : Float). r ≡ Occupancy.gamma (rows_of pass) i)
+  pub denominator_of_pass : (pass : Pass) (i : ℕ)
       → Unique (λ (r : Float). r ≡ Occupancy.denominator (lent_of pass).tables.shape.ends (rows_of pass) i)
   pub is_massless : (gamma denominator : Float) → Unique (λ (r : Bool). r ≡ (is_minus_infinity gamma || is_minus_infinity denominator))
 

@@ -5,29 +5,44 @@ use Rattle.lists.specs.inner.Holds as Front
 use Rattle.model.specs.Lent.{Lent, S, M, T, behind}
 use Rattle.model.specs.Model.{transition_of, emission_of, sample_at}
 use Rattle.occupancy.specs.declared.Pass.{Pass}
+use Rattle.occupancy.specs.declared.Rows.{Rows}
 use Rattle.occupancy.specs.Occupancy.{Walks, arc, arc_sum}
+
+module _ (rows : Rows) where
+  -- the walks as their rows lie in memory: T rows of S
+  abbrev pub walks_in : Walks
+  walks_in =
+      record {
+        count = rows.samples;
+        alpha = λ (t i : ℕ). at rows.alpha.now (t * rows.shape.states + i);
+        beta = λ (r i : ℕ). at rows.beta.now (r * rows.shape.states + i);
+        probx = rows.probx;
+      }
+
+  -- both walks have a row for each sample, of which there is one at least
+  pub record RowsStand : Type 0 where
+    pub few : rows.shape.states ≤ 64
+    pub some : 0 < rows.samples
+    pub alpha_room : rows.samples * rows.shape.states ≤ length rows.alpha.now
+    pub beta_room : rows.samples * rows.shape.states ≤ length rows.beta.now
 
 module _ (p : Pass) where
   -- what the pass is lent
   abbrev pub lent_of : Lent
   lent_of = behind p.lent
 
-  -- the walks as their rows lie in memory: T rows of S
-  abbrev pub rows_of : Walks
-  rows_of =
-      record {
-        count = T lent_of;
-        alpha = λ (t i : ℕ). at p.alpha.now (t * S lent_of + i);
-        beta = λ (r i : ℕ). at p.beta.now (r * S lent_of + i);
-        probx = p.probx;
-      }
+  -- the rows that it holds
+  abbrev pub rows_in : Rows
+  rows_in =
+      record { shape = lent_of.tables.shape; samples = T lent_of; alpha = p.alpha; beta = p.beta; probx = p.probx }
 
-  -- both walks have a row for each sample, of which there is one at least
-  pub record Standing : Type 0 where
-    pub few : S lent_of ≤ 64
-    pub some : 0 < T lent_of
-    pub alpha_room : T lent_of * S lent_of ≤ length p.alpha.now
-    pub beta_room : T lent_of * S lent_of ≤ length p.beta.now
+  -- the walks in these rows
+  abbrev pub rows_of : Walks
+  rows_of = walks_in rows_in
+
+  -- these rows stand
+  abbrev pub Standing : Type 0
+  Standing = RowsStand rows_in
 
   -- each sample is a symbol
   pub record Known : Type 0 where

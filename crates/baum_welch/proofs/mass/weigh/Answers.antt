@@ -19,13 +19,15 @@ loop-i-init c = (refl, record { room = omega arith; is = λ k h. absurd (omega a
 pub returns-then-is_massless : goal.returns-then-is_massless
 returns-then-is_massless c =
     let likely = sym c.is_minus_infinity.ensures ∙ c.if-is_minus_infinity.false in
-    let none = tested _ _ _ _ _ _ c.is_massless.ensures c.gamma-gamma.ensures c.denominator-denominator.ensures ∙ c.if-is_massless.true in
+    let gamma = rw c.rows-rows.ensures at c.gamma-gamma.ensures in
+    let denominator = rw c.rows-rows.ensures at c.denominator-denominator.ensures in
+    let none = tested _ _ _ _ _ _ c.is_massless.ensures gamma denominator ∙ c.if-is_massless.true in
     state_refused c.args.pass.now _ _ c.refused-then-is_massless.ensures likely c.loop-i.invariant.2 c.loop-i-test.true none
 
 pub loop-i-preserved : goal.loop-i-preserved
 loop-i-preserved c =
-    let gamma = c.gamma-gamma.ensures in
-    let denominator = c.denominator-denominator.ensures in
+    let gamma = rw c.rows-rows.ensures at c.gamma-gamma.ensures in
+    let denominator = rw c.rows-rows.ensures at c.denominator-denominator.ensures in
     let some = tested _ _ _ _ _ _ c.is_massless.ensures gamma denominator ∙ c.if-is_massless.false in (
       rw length-set c.loop-i.invariant.0,
       holds_more _ _ _ _ c.loop-i.invariant.1 (search rules) (ap₂ (λ g d. record { gamma = g; denominator = d }) gamma denominator),

@@ -9,4 +9,5 @@ loop-t-init c = emitted_none _ _ _ _ 256 _ c.requires.1.few c.minus_infinity-sum
 
 pub loop-t-preserved : goal.loop-t-preserved
 loop-t-preserved c =
-    emitted_more _ _ _ _ _ _ _ _ c.loop-t.invariant refl (search rules) (c.ln_add.ensures ∙ ap (ln_add _) c.occupancy.ensures)
+    let occupancy = rw c.rows-rows.ensures at c.occupancy.ensures in
+    emitted_more _ _ _ _ _ _ _ _ c.loop-t.invariant refl (search rules) (c.ln_add.ensures ∙ ap (ln_add _) occupancy)
