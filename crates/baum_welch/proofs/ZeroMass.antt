@@ -1,14 +1,14 @@
 -- What a pass answers by the mass that it finds.
-use Prim.Native.Nat.{ℕ, ◌<◌}
+use Prim.Native.Nat.{ℕ, ◌<◌, ◌≤◌}
 use native.Mathlib.Omega.{arith}
 use mathlib.Core.Path.{◌≡◌, sym, ap, ◌∙◌}
 use mathlib.Core.Bool.{Bool, true, false, ◌||◌}
 use borrow.Author.Tests.{lt-ltb, le-ltb}
 use lib.Ieee.{Float}
-use Rattle.floats.specs.Float.{is_minus_infinity}
+use Rattle.floats.specs.Float.{is_minus_infinity, minus_infinity}
 use Rattle.lists.specs.First.{first}
 use Rattle.lists.proofs.First.{first_stop}
-use Rattle.answer.specs.Answer.{is_done, refuse}
+use Rattle.answer.specs.Answer.{is_done, done, refuse}
 use Rattle.answer.specs.Checks.{first_of}
 use Rattle.answer.specs.declared.Answer.{Answer}
 use Rattle.answer.specs.declared.Refusal.TheVariants.{ZeroMass}
@@ -27,6 +27,10 @@ module _ (S : ℕ) (ends : Bool) (w : Walks) where
   pub mass_state : is_minus_infinity w.probx ≡ false → hollow < S → first_of (mass_tests S ends w) ≡ refuse ZeroMass 0 hollow
   unfolding first_of
   mass_state h l = rw (h, lt-ltb hollow S l)
+
+  pub mass_found : is_minus_infinity w.probx ≡ false → S ≤ hollow → first_of (mass_tests S ends w) ≡ done minus_infinity
+  unfolding first_of
+  mass_found h l = rw (h, le-ltb hollow S l)
 
 -- what the code tests of state i, by its gamma and its denominator
 pub tested : (ends : Bool) (w : Walks) (i : ℕ) (r : Bool) (g d : Float) → r ≡ (is_minus_infinity g || is_minus_infinity d) → g ≡ gamma w i
@@ -57,6 +61,5 @@ module _ (p : Pass) where
       (ap is_done e, e ∙ ap (refuse ZeroMass 0) stop ∙ sym (mass_state states (shape_of p).ends _ h (rw stop at l)))
 
   -- every state has mass
-  pub mass_found : is_minus_infinity p.probx ≡ false → Below states → is_done (mass_refusal p) ≡ true
-  unfolding first_of
-  mass_found h below = rw (h, below, le-ltb states states (omega arith))
+  pub mass_passed : is_minus_infinity p.probx ≡ false → Below states → is_done (mass_refusal p) ≡ true
+  mass_passed h below = ap is_done (mass_found states (shape_of p).ends (rows_of p) h (omega (arith, below)))

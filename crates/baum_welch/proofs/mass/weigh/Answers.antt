@@ -6,7 +6,7 @@ use Rattle.lists.proofs.First.{first_none, first_more}
 use Rattle.model.specs.Lent.{S}
 use Rattle.occupancy.specs.inner.Rows.{lent_of}
 use Rattle.occupancy.proofs.Held.{holds_more}
-use Rattle.baum_welch.proofs.ZeroMass.{tested, whole_refused, state_refused, mass_found}
+use Rattle.baum_welch.proofs.ZeroMass.{tested, whole_refused, state_refused, mass_passed}
 use Rattle.baum_welch.proofs.mass.weigh.Goals as goal
 
 pub returns-then-is_minus_infinity : goal.returns-then-is_minus_infinity
@@ -38,4 +38,4 @@ pub returns : goal.returns
 returns c =
     let likely = sym c.is_minus_infinity.ensures ∙ c.if-is_minus_infinity.false in
     let all : c.loop-i.i ≡ S (lent_of c.args.pass.now) = omega arith in
-    (mass_found c.args.pass.now likely (rw all at c.loop-i.invariant.2), rw all at c.loop-i.invariant.1)
+    (mass_passed c.args.pass.now likely (rw all at c.loop-i.invariant.2), rw all at c.loop-i.invariant.1)
