@@ -28,6 +28,7 @@ module _ (S : ℕ) (ends : Bool) (w : Walks) where
   unfolding first_of
   mass_state h l = rw (h, lt-ltb hollow S l)
 
+  -- none of the S states is without mass
   pub mass_found : is_minus_infinity w.probx ≡ false → S ≤ hollow → first_of (mass_tests S ends w) ≡ done minus_infinity
   unfolding first_of
   mass_found h l = rw (h, le-ltb hollow S l)

@@ -1,4 +1,6 @@
-// The calls of the frozen list.
+// The calls of the frozen list, by their numbers.
+ghost use Rattle.std.specs.Prelude.{◌≡◌, slice_get};
+
 #[derive(Clone, Copy)]
 pub enum Call {
     Viterbi,
@@ -50,3 +52,10 @@ pub const CALLS: [Call; 22] = [
     Call::FileLength,
     Call::Rival,
 ];
+
+// The call that has this number; none where no call has it.
+pub fn call_at(number: u64) -> Option<Call>
+    ensures { result ≡ slice_get CALLS number }
+{
+    CALLS.get(number as usize).copied()
+}

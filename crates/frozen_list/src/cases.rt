@@ -1,12 +1,11 @@
 // A case of the frozen list: the number of its call, the answer (refusal, table, place, the bits of the value), and from word 5 on its
 // lists, each after its length.
-ghost use Rattle.std.specs.Prelude.{◌≡◌, ◌%◌, ◌≤◌, IfSome, slice_get};
+ghost use Rattle.std.specs.Prelude.{◌≡◌, ◌%◌, ◌≤◌, IfSome};
 ghost use Rattle.std.proofs.Math.ListN as ListN;
 ghost use Rattle.lists.specs.Lists.{tab};
 ghost use Rattle.frozen_list.specs.Cases.{span_at, span_of, list_of, table_of, ends_with};
 ghost use Rattle.program_io.specs.Words.{word_at};
 
-use crate::calls::{CALLS, Call};
 use program_io::words::{FromWord, word_at};
 
 // The number of the case's call, whether or not it is altered.
@@ -14,13 +13,6 @@ pub fn call_of(case: &[u64]) -> u64
     ensures { result ≡ word_at case.now 0 % 64 }
 {
     word_at(case, 0) % 64
-}
-
-// The call that has this number; none where no call has it.
-pub fn call_at(number: u64) -> Option<Call>
-    ensures { result ≡ slice_get CALLS number }
-{
-    CALLS.get(number as usize).copied()
 }
 
 // Where a list begins and ends.

@@ -163,7 +163,7 @@ module _ (f : List ℕ) (a b c d : ℕ) where
     laying_end = laying_end_lem sh own readable d readable.roomy.1.1.1.0
 
 -- for `check_read`, and for `read_model`
-pub ruleset laying_steps = (laying_transition, laying_emission, laying_initial, laying_end, done_enough, read_passed, read_refused, read_refusal)
+pub ruleset laying_steps = (laying_transition, laying_emission, laying_initial, laying_end, done_enough, read_passed)
 
 -- ---- what the lent tables hold at the end: a table of the file, by the shape that was read
 own_table : (sh : Shape) (f : List ℕ) → sh ≡ shape_of f → (i : ℕ) (l cur : List Float) → cur ≡ over 0 (floats (body_at sh f i)) l

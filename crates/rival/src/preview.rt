@@ -61,7 +61,8 @@ struct Carried {
     origins: [u8; 64],
 }
 
-// Carries that through all samples, one or more. It is written where it is lent, since a value that is handed back is copied on the stack.
+// Carries a row and its origins through all samples, one or more. Both are written where they are lent: a struct that is handed back is
+// copied on the stack.
 fn carry(lent: &Lent, bar: Option<Bar>, index: usize, carried: &mut Carried)
     requires accepted { Accepted (behind lent.now) }
     requires some_sample { 0 < T (behind lent.now) }

@@ -12,7 +12,8 @@ mod files;
 mod report;
 mod walks;
 
-use frozen_list::cases::{call_at, call_of};
+use frozen_list::calls::call_at;
+use frozen_list::cases::call_of;
 use frozen_list::tally;
 use frozen_list::tally::KINDS;
 use program_io::words::{read_full, read_words};

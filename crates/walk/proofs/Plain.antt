@@ -1,4 +1,4 @@
--- A bar past the last sample bars nothing: the walk is that of the plain model.
+-- Rows before a barred sample are those of the plain model, as include/wasnugram.h says of `rival`. So a bar past the last sample bars nothing.
 use Prim.Native.Nat.{ℕ, zero, suc, ◌≤◌, ◌<◌}
 use mathlib.Core.Path.{◌≡◌, refl, ap, ap₂, fun_ext, ◌∙◌}
 use mathlib.Core.List.{List, [], ◌∷◌, ◌++◌}
