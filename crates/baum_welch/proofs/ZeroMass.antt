@@ -28,7 +28,7 @@ module _ (S : ℕ) (ends : Bool) (w : Walks) where
   unfolding first_of
   mass_state h l = rw (h, lt-ltb hollow S l)
 
-  -- none of the S states is without mass
+  -- where the samples can be and none of S states is without mass, the tests answer done
   pub mass_found : is_minus_infinity w.probx ≡ false → S ≤ hollow → first_of (mass_tests S ends w) ≡ done minus_infinity
   unfolding first_of
   mass_found h l = rw (h, le-ltb hollow S l)
@@ -61,6 +61,6 @@ module _ (p : Pass) where
       let stop = first_stop _ i states below there l in
       (ap is_done e, e ∙ ap (refuse ZeroMass 0) stop ∙ sym (mass_state states (shape_of p).ends _ h (rw stop at l)))
 
-  -- every state has mass
+  -- so a pass is not refused where every state has mass
   pub mass_passed : is_minus_infinity p.probx ≡ false → Below states → is_done (mass_refusal p) ≡ true
   mass_passed h below = ap is_done (mass_found states (shape_of p).ends (rows_of p) h (omega (arith, below)))

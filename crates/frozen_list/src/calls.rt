@@ -54,6 +54,7 @@ pub const CALLS: [Call; 22] = [
 ];
 
 // The call that has this number; none where no call has it.
+#[tactic(auto, using(crate::proofs::Copied::copied_item))]
 pub fn call_at(number: u64) -> Option<Call>
     ensures { result ≡ slice_get CALLS number }
 {

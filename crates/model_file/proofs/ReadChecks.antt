@@ -162,7 +162,7 @@ module _ (f : List ℕ) (a b c d : ℕ) where
     pub laying_end : LayingEnd sh f d
     laying_end = laying_end_lem sh own readable d readable.roomy.1.1.1.0
 
--- for `check_read`, and for `read_model`
+-- what `read_model` owes where it reads the shape and lays the tables
 pub ruleset laying_steps = (laying_transition, laying_emission, laying_initial, laying_end, done_enough, read_passed)
 
 -- ---- what the lent tables hold at the end: a table of the file, by the shape that was read
@@ -173,7 +173,8 @@ own_table sh f own i l cur e = e ∙ ap (λ (s : Shape). over 0 (floats (body_at
 own_end : (sh : Shape) (f : List ℕ) → sh ≡ shape_of f → (l cur : List Float) → cur ≡ over 0 (end_at sh f) l → cur ≡ over 0 (end_of f) l
 own_end sh f own l cur e = e ∙ ap (λ (s : Shape). over 0 (end_at s f) l) own
 
--- ---- the two ways in which a reader ends: refused, all stays
+-- ---- the two ways in which a reader ends
+-- it refuses: it gives the first fault and the shape of no model, and all memory stays
 pub is_refused : (f : List ℕ) (o : Outputs) {x : Answer} (sh : Shape)
     → Err x ≡ first_fault (read_tests f (length o.transition) (length o.emission) (length o.initial) (length o.end)) → sh ≡ no_shape
     → Read f o (record { answer = x; shape = sh }) o
@@ -188,7 +189,7 @@ is_refused f o sh e s =
       end = rw stopped;
     }
 
--- done, each table is laid over the front of its output
+-- it is done: it answers +0.0 and the file's shape, and each table lies over the front of its output
 pub is_read : (f : List ℕ) (o : Outputs) (r : Answer) (sh : Shape) (e : Outputs) → is_done (read_check f o) ≡ true → r ≡ done nought
     → sh ≡ shape_of f → e.transition ≡ over 0 (floats (body_at sh f 0)) o.transition → e.emission ≡ over 0 (floats (body_at sh f 1)) o.emission
     → e.initial ≡ over 0 (floats (body_at sh f 2)) o.initial → e.end ≡ over 0 (end_at sh f) o.end

@@ -12,7 +12,7 @@ ghost use Rattle.occupancy.specs.inner.Rows.{rows_in};
 
 use model::{Lent, Shape};
 
-// The rows of both walks and what is known of them: the shape, how many samples there were, and the likelihood of them all.
+// The rows of both walks, with the shape, the number of samples and the likelihood of all samples.
 #[derive(Clone, Copy)]
 pub struct Rows<'a> {
     pub shape: Shape,
@@ -32,7 +32,7 @@ pub struct Pass<'a> {
 }
 
 impl<'a> Pass<'a> {
-    // The rows alone, for what reads neither the tables nor the samples.
+    // What is asked of a pass by what reads neither its tables nor its samples.
     pub fn rows(&self) -> Rows<'a>
         ensures { result ≡ rows_in self.now }
     {

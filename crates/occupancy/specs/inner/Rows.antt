@@ -9,7 +9,7 @@ use Rattle.occupancy.specs.declared.Rows.{Rows}
 use Rattle.occupancy.specs.Occupancy.{Walks, arc, arc_sum}
 
 module _ (rows : Rows) where
-  -- the walks as their rows lie in memory: T rows of S
+  -- the walks as their rows lie in memory: a row for each sample, of a place for each state
   abbrev pub walks_in : Walks
   walks_in =
       record {
@@ -19,7 +19,7 @@ module _ (rows : Rows) where
         probx = rows.probx;
       }
 
-  -- both walks have a row for each sample, of which there is one at least
+  -- both walks have a row of at most 64 states for each sample, of which there is one at least
   pub record RowsStand : Type 0 where
     pub few : rows.shape.states ≤ 64
     pub some : 0 < rows.samples
