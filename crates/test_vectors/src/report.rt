@@ -9,30 +9,7 @@ struct Named(Call);
 
 impl fmt::Display for Named {
     fn fmt<W: fmt::Write>(&self, f: &mut fmt::Formatter<W>) -> fmt::Result {
-        f.pad(match self.0 {
-            Call::Viterbi => "viterbi",
-            Call::Forward => "forward",
-            Call::Backward => "backward",
-            Call::BaumWelch => "baum_welch",
-            Call::Exp => "exp",
-            Call::Ln => "ln",
-            Call::LnOneMinusExp => "ln_one_minus_exp",
-            Call::LnSumExp => "ln_sum_exp",
-            Call::LnAddExp => "ln_add_exp",
-            Call::LnSubExp => "ln_sub_exp",
-            Call::LnCumsumExp => "ln_cumsum_exp",
-            Call::CapNumericalOvershoot => "cap_numerical_overshoot",
-            Call::IsValid => "is_valid",
-            Call::ProbChecked => "Prob::checked",
-            Call::LogProbFromProb => "LogProb::from_prob",
-            Call::ProbFromLogProb => "Prob::from_log_prob",
-            Call::PhredProbFromLogProb => "PHREDProb::from_log_prob",
-            Call::LogProbFromPhredProb => "LogProb::from_phred_prob",
-            Call::ReadModel => "read_model",
-            Call::WriteModel => "write_model",
-            Call::FileLength => "file_length",
-            Call::Rival => "rival",
-        })
+        self.0.fmt(f)
     }
 }
 
