@@ -1,4 +1,4 @@
-// The calls of the frozen list, by their numbers.
+// The calls of the frozen list, by their numbers, and their names.
 ghost use Rattle.std.specs.Prelude.{◌≡◌, Some, slice_get};
 ghost use Rattle.std.specs.Fmt.{padded};
 ghost use Rattle.frozen_list.specs.Calls.{name_of};

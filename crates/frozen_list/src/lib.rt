@@ -1,4 +1,4 @@
-// The frozen list of rust/FROZEN.md: where the parts of a case lie, and how many cases differ.
+// The frozen list of rust/FROZEN.md: its calls, where the parts of a case lie, and how many cases differ.
 
 #![tactic(auto)]
 

@@ -3,7 +3,7 @@ use frozen_list::calls::{CALLS, Call};
 use frozen_list::tally::KINDS;
 use std::{fmt, io};
 
-// A call, shown by the name that the library gives it.
+// A call in a line of the report, shown as the frozen list names it.
 #[derive(Clone, Copy)]
 struct Named(Call);
 
